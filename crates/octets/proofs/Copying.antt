@@ -1,0 +1,29 @@
+-- Laws of `copied`: when it is a paste and when nothing, its length, and copies that follow each other. Assumes nothing.
+use mathlib.Core.Path.{_≡_, refl, sym, ap, _∙_}
+use mathlib.Core.List.{List, [], _∷_, _++_, append-assoc}
+use Prim.Native.Nat.{ℕ, _+_, _≤_, _<_}
+use native.Mathlib.Nat.{add-zero, zero-add}
+use native.Mathlib.Omega.{arith}
+use borrow.Author.Tests.{le-leb, lt-leb}
+use lib.ListN.{length, take, drop, length-append, length-drop}
+use lib.Seq.{paste, length-paste, take-length, take-at, drop-at, drop-drop}
+use Rattle.octets.specs.Octets.{Bytes, copied}
+
+pub copied-fits : (d : Bytes) (at : ℕ) (s : Bytes) → at + length s ≤ length d → copied d at s ≡ paste d at s (length s)
+unfolding copied
+copied-fits d at s h = simp (le-leb (at + length s) (length d) h)
+
+pub copied-short : (d : Bytes) (at : ℕ) (s : Bytes) → length d < at + length s → copied d at s ≡ d
+unfolding copied
+copied-short d at s h = simp (lt-leb (at + length s) (length d) h)
+
+-- a is written, and the rest of d stands: s goes in after it
+pub copied-next : (d a s : Bytes) → length a + length s ≤ length d
+    → copied (a ++ drop (length a) d) (length a) s ≡ (a ++ s) ++ drop (length (a ++ s)) d
+copied-next d a s h =
+    let r : Bytes = drop (length a) d in
+    let size : length (a ++ r) ≡ length d = simp (length-append, length-drop) (omega arith) in
+    let past : drop (length s) (drop (length a) (a ++ r)) ≡ drop (length (a ++ s)) d =
+    (simp (drop-at a r (length a) refl, drop-drop (length s) (length a) d, length-append a s)) in
+    copied-fits (a ++ r) (length a) s (omega arith)
+    ∙ simp (take-at a r (length a) refl, take-length s, ← drop-drop (length s) (length a) (a ++ r), past)

@@ -1,0 +1,22 @@
+-- Lists of bytes: their sum, and a copy into a lent buffer. A byte is a number below 256. Assumes nothing.
+use Prim.Native.Nat.{ℕ, _+_, _<_}
+use mathlib.Core.List.{List, [], _∷_}
+use lib.Dec.{leb}
+use lib.ListN.{length, getD}
+use lib.Seq.{paste}
+use Rattle.octets.specs.Pick.{pick}
+
+abbrev pub Bytes : Type 0
+Bytes = List ℕ
+
+-- each of them is below 256
+pub record Octets (s : Bytes) : Type 0 where
+  pub below : (i : ℕ) → getD s i 0 < 256
+
+unfoldable pub total : List ℕ → ℕ
+total [] = 0
+total (n ∷ s) = n + total s
+
+-- the buffer d after all of s was copied to place `at`; a copy that does not fit changes nothing
+unfoldable pub copied : Bytes → ℕ → Bytes → Bytes
+copied d at s = pick (leb (at + length s) (length d)) (paste d at s (length s)) d

@@ -1,0 +1,6 @@
+-- A choice by a test, for values of every type. Assumes nothing.
+use mathlib.Core.Bool.{Bool, true, false}
+
+abbrev pub pick {ℓ} : {A : Type ℓ} → Bool → A → A → A
+pick true a b = a
+pick false a b = b

@@ -1,0 +1,126 @@
+// Bytes in lent buffers: numbers in little-endian order, and copies. Every function is total: what is read past the end
+// of a buffer is zero, and what does not fit into one is not written.
+ghost use mathlib.Core.Path.{_≡_};
+ghost use Prim.Native.Nat.{ℕ, _+_, _≤_, _<_, _^_};
+ghost use lib.ListN.{length, getD};
+ghost use Rattle.octets.specs.Octets.{copied};
+ghost use Rattle.octets.specs.Numbers.{number, octets};
+
+// The byte at a place, 0 past the end.
+pub fn byte_at(s: &[u8], at: usize) -> u8
+    ensures { λ r. ⌜ r ≡ getD (now (s .entry)) at 0 ⌝ }
+{
+    if at < s.len() { s[at] } else { 0 }
+}
+
+fn wide(x: u8) -> u64
+    ensures { λ r. ⌜ (r ≡ x) × (r < 256) ⌝ }
+{
+    x as u64
+}
+
+// The number in the n bytes from `at` on. The last byte comes first, so that each turn is one digit more.
+fn number_at(s: &[u8], at: usize, n: usize) -> u64
+    requires { ⌜ n ≤ 8 ⌝ }
+    ensures { λ r. ⌜ (r ≡ number n (now (s .entry)) at) × (r < 256 ^ n) ⌝ }
+{
+    if s.len() <= at {
+        return 0;
+    }
+    let mut x: u64 = 0;
+    for j in 0..n {
+        let b = byte_at(s, at + (n - 1 - j));
+        x = x * 256 + wide(b);
+    }
+    x
+}
+
+pub fn number16(s: &[u8], at: usize) -> u16
+    ensures { λ r. ⌜ r ≡ number 2 (now (s .entry)) at ⌝ }
+{
+    number_at(s, at, 2) as u16
+}
+
+pub fn number32(s: &[u8], at: usize) -> u32
+    ensures { λ r. ⌜ r ≡ number 4 (now (s .entry)) at ⌝ }
+{
+    number_at(s, at, 4) as u32
+}
+
+pub fn number64(s: &[u8], at: usize) -> u64
+    ensures { λ r. ⌜ r ≡ number 8 (now (s .entry)) at ⌝ }
+{
+    number_at(s, at, 8)
+}
+
+// All of s into d from place `at` on, or nothing where it does not fit.
+pub fn copy_at(d: &mut [u8], at: usize, s: &[u8])
+    ensures { λ _. ⌜ now (d .exit) ≡ copied (now (d .entry)) at (now (s .entry)) ⌝ }
+{
+    if d.len() < at {
+        return;
+    }
+    if d.len() - at < s.len() {
+        return;
+    }
+    let mut j = 0;
+    while j < s.len() {
+        d[at + j] = s[j];
+        j += 1;
+    }
+}
+
+fn octets8(x: u64) -> [u8; 8]
+    ensures { λ r. ⌜ r ≡ octets 8 x ⌝ }
+{
+    let a = x / 256;
+    let b = a / 256;
+    let c = b / 256;
+    let d = c / 256;
+    let e = d / 256;
+    let f = e / 256;
+    let g = f / 256;
+    [
+        (x % 256) as u8,
+        (a % 256) as u8,
+        (b % 256) as u8,
+        (c % 256) as u8,
+        (d % 256) as u8,
+        (e % 256) as u8,
+        (f % 256) as u8,
+        (g % 256) as u8,
+    ]
+}
+
+// The lowest n bytes of x into d from place `at` on, or nothing where they do not fit.
+fn put_number(d: &mut [u8], at: usize, n: usize, x: u64)
+    requires { ⌜ n ≤ 8 ⌝ }
+    ensures { λ _. ⌜ now (d .exit) ≡ copied (now (d .entry)) at (octets n x) ⌝ }
+{
+    let b = octets8(x);
+    copy_at(d, at, &b[..n]);
+}
+
+pub fn put8(d: &mut [u8], at: usize, x: u8)
+    ensures { λ _. ⌜ now (d .exit) ≡ copied (now (d .entry)) at (octets 1 x) ⌝ }
+{
+    put_number(d, at, 1, x as u64)
+}
+
+pub fn put16(d: &mut [u8], at: usize, x: u16)
+    ensures { λ _. ⌜ now (d .exit) ≡ copied (now (d .entry)) at (octets 2 x) ⌝ }
+{
+    put_number(d, at, 2, x as u64)
+}
+
+pub fn put32(d: &mut [u8], at: usize, x: u32)
+    ensures { λ _. ⌜ now (d .exit) ≡ copied (now (d .entry)) at (octets 4 x) ⌝ }
+{
+    put_number(d, at, 4, x as u64)
+}
+
+pub fn put64(d: &mut [u8], at: usize, x: u64)
+    ensures { λ _. ⌜ now (d .exit) ≡ copied (now (d .entry)) at (octets 8 x) ⌝ }
+{
+    put_number(d, at, 8, x)
+}

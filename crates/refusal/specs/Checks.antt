@@ -1,0 +1,22 @@
+-- Checks in their order, and the first that refuses (document 01, "Feeding a page checks .. in this order").
+-- Assumes nothing.
+use mathlib.Core.Bool.{Bool}
+use mathlib.Core.List.{List, [], _∷_}
+use mathlib.Core.Option.{Option, none, some}
+use Rattle.octets.specs.Pick.{pick}
+use Rattle.refusal.specs.declared.Refusal.{Refusal}
+
+-- a check: the refusal, and the test under which it is given
+infix 45 _when_
+pub data Check : Type 0 where
+  _when_ : Refusal → Bool → Check
+
+-- the refusal of the first check whose test holds
+unfoldable pub firstOf : List Check → Option Refusal
+firstOf [] = none
+firstOf ((r when test) ∷ checks) = pick test (some r) (firstOf checks)
+
+-- the first answer, or else the second
+abbrev pub orElse : Option Refusal → Option Refusal → Option Refusal
+orElse none o = o
+orElse (some r) o = some r

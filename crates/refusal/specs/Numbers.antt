@@ -1,0 +1,30 @@
+-- The number of each refusal (document 01, "Refusals by number"). Assumes nothing.
+use Prim.Native.Nat.{ℕ}
+use Rattle.refusal.specs.declared.Refusal.{Refusal}
+use Rattle.refusal.specs.declared.Refusal.the-variants.{ShortRoom, AfterEnd, NotOnePage, WrongChecksum, OtherSerial, OutOfSequence, WrongFlags, WrongContinued, PacketTooLong, HeaderShape, WrongGranule, BadHead, BadMapping, BadTags, IllegalPacket, MixedLengths, GranuleTooSmall, BelowPreSkip, NoPosition, NoSuchComment, BadGain, ShortOutput, UnfitFields, ClockRange}
+
+abbrev pub numberOf : Refusal → ℕ
+numberOf ShortRoom = 1
+numberOf AfterEnd = 2
+numberOf NotOnePage = 3
+numberOf WrongChecksum = 4
+numberOf OtherSerial = 5
+numberOf OutOfSequence = 6
+numberOf WrongFlags = 7
+numberOf WrongContinued = 8
+numberOf PacketTooLong = 9
+numberOf HeaderShape = 10
+numberOf WrongGranule = 11
+numberOf BadHead = 12
+numberOf BadMapping = 13
+numberOf BadTags = 14
+numberOf IllegalPacket = 15
+numberOf MixedLengths = 16
+numberOf GranuleTooSmall = 17
+numberOf BelowPreSkip = 18
+numberOf NoPosition = 19
+numberOf NoSuchComment = 20
+numberOf BadGain = 21
+numberOf ShortOutput = 22
+numberOf UnfitFields = 23
+numberOf ClockRange = 30
