@@ -1,12 +1,15 @@
 -- Laws of `copied`: when it is a paste and when nothing, its length, and copies that follow each other. Assumes nothing.
-use mathlib.Core.Path.{_≡_, refl, sym, ap, _∙_}
-use mathlib.Core.List.{List, [], _∷_, _++_, append-assoc}
+use mathlib.Core.Path.{_≡_, refl, _∙_}
+use mathlib.Core.Bool.{Bool, true, false}
+use mathlib.Core.List.{_++_}
 use Prim.Native.Nat.{ℕ, _+_, _≤_, _<_}
-use native.Mathlib.Nat.{add-zero, zero-add}
+use native.Mathlib.Nat.{le-refl}
 use native.Mathlib.Omega.{arith}
-use borrow.Author.Tests.{le-leb, lt-leb}
+use borrow.Author.Tests.{le-leb, lt-leb, leb-true}
 use lib.ListN.{length, take, drop, length-append, length-drop}
 use lib.Seq.{paste, length-paste, take-length, take-at, drop-at, drop-drop}
+use lib.Dec.{leb}
+use Rattle.octets.specs.Pick.{pick}
 use Rattle.octets.specs.Octets.{Bytes, copied}
 
 pub copied-fits : (d : Bytes) (at : ℕ) (s : Bytes) → at + length s ≤ length d → copied d at s ≡ paste d at s (length s)
@@ -16,6 +19,14 @@ copied-fits d at s h = simp (le-leb (at + length s) (length d) h)
 pub copied-short : (d : Bytes) (at : ℕ) (s : Bytes) → length d < at + length s → copied d at s ≡ d
 unfolding copied
 copied-short d at s h = simp (lt-leb (at + length s) (length d) h)
+
+pub length-copied : (d : Bytes) (at : ℕ) (s : Bytes) → length (copied d at s) ≡ length d
+unfolding copied
+length-copied d at s = by (leb (at + length s) (length d)) refl
+  where
+    by : (t : Bool) → leb (at + length s) (length d) ≡ t → length (pick t (paste d at s (length s)) d) ≡ length d
+    by true e = length-paste d at s (length s) (leb-true (at + length s) (length d) e) (le-refl (length s))
+    by false e = refl
 
 -- a is written, and the rest of d stands: s goes in after it
 pub copied-next : (d a s : Bytes) → length a + length s ≤ length d

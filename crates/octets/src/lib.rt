@@ -1,10 +1,16 @@
 // Bytes in lent buffers: numbers in little-endian order, and copies. Every function is total: what is read past the end
 // of a buffer is zero, and what does not fit into one is not written.
 ghost use mathlib.Core.Path.{_≡_};
-ghost use Prim.Native.Nat.{ℕ, _+_, _≤_, _<_, _^_};
+ghost use Prim.Native.Nat.{ℕ, _+_, _≤_, _<_, _^_, min};
 ghost use lib.ListN.{length, getD};
 ghost use Rattle.octets.specs.Octets.{copied};
 ghost use Rattle.octets.specs.Numbers.{number, octets};
+
+pub fn least(a: usize, b: usize) -> usize
+    ensures { λ r. ⌜ r ≡ min a b ⌝ }
+{
+    if a < b { a } else { b }
+}
 
 // The byte at a place, 0 past the end.
 pub fn byte_at(s: &[u8], at: usize) -> u8
@@ -70,7 +76,8 @@ pub fn copy_at(d: &mut [u8], at: usize, s: &[u8])
     }
 }
 
-fn octets8(x: u64) -> [u8; 8]
+// The eight bytes of a number, lowest first.
+pub fn octets64(x: u64) -> [u8; 8]
     ensures { λ r. ⌜ r ≡ octets 8 x ⌝ }
 {
     let a = x / 256;
@@ -97,7 +104,7 @@ fn put_number(d: &mut [u8], at: usize, n: usize, x: u64)
     requires { ⌜ n ≤ 8 ⌝ }
     ensures { λ _. ⌜ now (d .exit) ≡ copied (now (d .entry)) at (octets n x) ⌝ }
 {
-    let b = octets8(x);
+    let b = octets64(x);
     copy_at(d, at, &b[..n]);
 }
 

@@ -7,7 +7,7 @@ use Rattle.octets.specs.Pick.{pick}
 use Rattle.refusal.specs.declared.Refusal.{Refusal}
 
 -- a check: the refusal, and the test under which it is given
-infix 45 _when_
+infix 68 _when_
 pub data Check : Type 0 where
   _when_ : Refusal → Bool → Check
 

@@ -9,8 +9,8 @@ use borrow.Author.Needs.{needs}
 use Rattle.octets.proofs.put_number.Statement.{statement}
 use Rattle.octets.proofs.put_number.Tie as tie
 
-octets8-requires : tie.Need-octets8-requires
-octets8-requires c κs = search needs
+octets64-requires : tie.Need-octets64-requires
+octets64-requires c κs = search needs
 
 array-share-prefix-b : tie.Need-array-share-prefix-b
 array-share-prefix-b c = search needs
@@ -18,7 +18,7 @@ array-share-prefix-b c = search needs
 slice-aggregate-copy-at : tie.Need-slice-aggregate-copy-at
 slice-aggregate-copy-at c =
     let start = c .before .before .before .before in
-    let e = ap length (c .before .before .octets8 .ensures) ∙ length-octets 8 (start .args .x) in
+    let e = ap length (c .before .before .octets64 .ensures) ∙ length-octets 8 (start .args .x) in
     simp length-take (omega (arith, e))
 
 copy-at-requires : tie.Need-copy-at-requires
@@ -32,14 +32,14 @@ returns c =
     let made = c .before .before .before .before .before in
     let a = made .before .before .args in
     c .before .before .copy-at .ensures
-    ∙ ap (λ (s : Bytes). copied (now (a .d)) (a .at) (take (a .n) s)) (made .octets8 .ensures)
+    ∙ ap (λ (s : Bytes). copied (now (a .d)) (a .at) (take (a .n) s)) (made .octets64 .ensures)
     ∙ ap (copied (now (a .d)) (a .at)) (take-octets (a .n) 8 (a .x) (made .before .before .pre))
 
 pub put-number-spec : {M : Type 1} → statement M
 put-number-spec =
     tie.close
     (tie.spec
-    octets8-requires
+    octets64-requires
     array-share-prefix-b
     slice-aggregate-copy-at
     copy-at-requires

@@ -1,9 +1,9 @@
--- `octets::octets8` meets its contract: the eight remainders are those of the definition. Assumes nothing.
+-- `octets::octets64` meets its contract: the eight remainders are those of the definition. Assumes nothing.
 use mathlib.Core.Path.{refl}
 use Rattle.octets.specs.Numbers.{octets}
 use borrow.Author.Needs.{needs}
-use Rattle.octets.proofs.octets8.Statement.{statement}
-use Rattle.octets.proofs.octets8.Tie as tie
+use Rattle.octets.proofs.octets64.Statement.{statement}
+use Rattle.octets.proofs.octets64.Tie as tie
 
 cast-t10 : tie.Need-cast-t10
 cast-t10 c = search needs
@@ -33,7 +33,7 @@ returns : tie.Need-returns
 unfolding octets
 returns c = refl
 
-pub octets8-spec : {M : Type 1} → statement M
-octets8-spec =
+pub octets64-spec : {M : Type 1} → statement M
+octets64-spec =
     tie.close
     (tie.spec cast-t10 cast-t12 cast-t14 cast-t16 cast-t18 cast-t20 cast-t22 cast-t24 returns)

@@ -1,0 +1,49 @@
+-- The answers to C, by what the library tells. Assumes nothing.
+use mathlib.Core.Path.{_≡_, refl, sym, ap, _∙_}
+use mathlib.Core.Bool.{Bool, true, false, not}
+use mathlib.Core.List.{List, [], _∷_}
+use mathlib.Core.Option.{some}
+use Prim.Native.Nat.{ℕ, _<_}
+use borrow.Author.Tests.{lt-ltb}
+use lib.Dec.{ltb, eqb}
+use lib.ListN.{length}
+use Rattle.octets.specs.Octets.{Bytes, total}
+use Rattle.refusal.specs.declared.Refusal.{Refusal}
+use Rattle.refusal.specs.declared.Refusal.the-variants.{UnfitFields}
+use Rattle.refusal.specs.Checks.{_when_, firstOf}
+use Rattle.refusal.specs.Told.{gives, refuses}
+use Rattle.ogg_crc.specs.Crc.{pageCrc}
+use Rattle.ogg_page.specs.declared.PageHeader.{PageHeader}
+use Rattle.ogg_page.specs.Page.{lacingOf, bodyOf}
+use Rattle.ogg_page.specs.Reading.{readPage}
+use Rattle.ogg_page.specs.Writing.{pageSize, writeChecks, writeTold, writeOut}
+use Rattle.embulgri.specs.Answers.{PageIn, PageOut}
+
+module _ (p : Bytes) (old : List ℕ) where
+  pub page-read : (h : PageHeader) (l b : Bytes) → readPage pageCrc p ≡ gives h → l ≡ lacingOf p → b ≡ bodyOf p
+      → PageIn p 0 old (h .flags ∷ h .granule ∷ h .serial ∷ h .sequence ∷ length l ∷ length b ∷ [])
+  page-read h l b e el eb = rw (el, eb) (record { answer = rw e; numbers = rw e })
+
+  pub page-refused : (n : ℕ) → readPage pageCrc p ≡ refuses n → PageIn p n old old
+  page-refused n e = record { answer = rw e; numbers = rw e }
+
+module _ (h : PageHeader) (l b out : Bytes) (old : ℕ) where
+  pub page-written : (n : ℕ) (end : Bytes) → writeTold h l b out ≡ gives n → end ≡ writeOut h l b out → PageOut h l b 0 out end old n
+  page-written n end e o = record { answer = rw e; output = o; written = rw e }
+
+  pub write-refused : (n : ℕ) (end : Bytes) → writeTold h l b out ≡ refuses n → end ≡ writeOut h l b out → PageOut h l b n out end old old
+  write-refused n end e o = record { answer = rw e; output = o; written = rw e }
+
+  -- flags above 7 are refused whatever else is wrong, since the checks before theirs give the same number
+  flags-decide : 7 < h .flags → firstOf (writeChecks h l b (length out)) ≡ some UnfitFields
+  unfolding firstOf
+  flags-decide f = rw (lt-ltb 7 (h .flags) f) (either (ltb 255 (length l)) (not (eqb (total l) (length b))))
+    where
+      either : (s t : Bool) → firstOf (UnfitFields when s ∷ UnfitFields when t ∷ UnfitFields when true ∷ []) ≡ some UnfitFields
+      either true t = refl
+      either false true = refl
+      either false false = refl
+
+  pub flags-refused : 7 < h .flags → PageOut h l b 23 out out old old
+  unfolding writeTold writeOut
+  flags-refused f = write-refused 23 out (rw (flags-decide f)) (rw (flags-decide f))

@@ -1,0 +1,4 @@
+pub mod Crc
+pub mod Sliced
+pub mod Table
+pub mod Statements

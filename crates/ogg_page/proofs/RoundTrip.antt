@@ -1,0 +1,167 @@
+-- Reading what was written gives it back, and writing what was read does. Assumes nothing.
+use mathlib.Core.Path.{_≡_, refl, sym, ap, _∙_}
+use mathlib.Core.Bool.{true, _&&_}
+use mathlib.Core.List.{_∷_, _++_}
+use mathlib.Core.Option.{none}
+use Prim.Native.Nat.{ℕ, suc, _+_, _^_, _≤_, _<_}
+use native.Mathlib.Omega.{arith}
+use borrow.Author.Tests.{ltb-false, eqb-true, not-false, le-ltb, eq-eqb}
+use lib.Dec.{eqb}
+use lib.ListN.{length, getD, take, drop, length-take, length-drop, take-append-drop}
+use lib.Seq.{length-take-le, take-length, take-append-seam, drop-cons, drop-drop}
+use Rattle.octets.specs.Octets.{Bytes, Octets, total}
+use Rattle.octets.specs.Numbers.{value, octets, number}
+use Rattle.octets.proofs.Numbers.{octets-value}
+use Rattle.octets.proofs.Copying.{copied-fits}
+use Rattle.refusal.specs.Checks.{firstOf}
+use Rattle.refusal.specs.Told.{gives}
+use Rattle.ogg_crc.specs.Crc.{pageCrc}
+use Rattle.ogg_crc.proofs.Page.{page-crc-fits}
+use Rattle.ogg_crc.proofs.Slice.{octets-drop, octets-take}
+use Rattle.ogg_page.specs.declared.PageHeader.{PageHeader}
+use Rattle.ogg_page.specs.Page.{hasCapture, versionOf, headerOf, checksumOf, countOf, lacingOf, bodyOf, sizeOf}
+use Rattle.ogg_page.specs.Reading.{isOnePage, readChecks, readPage}
+use Rattle.ogg_page.specs.Writing.{pageBytes, pageSize, writeChecks, writeTold, writeOut}
+use Rattle.ogg_page.specs.Statements.{Fit, ReadsAs, ReadsBack, WritesBack}
+use Rattle.ogg_page.proofs.Passed.{no-refusal, passes, both, equal-and}
+use Rattle.ogg_page.proofs.Written.{page, page-length, page-capture, page-version, page-count, page-lacing, page-body, page-header, page-checksum, page-crc, sealed-page}
+
+-- ---- reading what was written
+
+-- what the checks of a writer that wrote have shown
+record Sound (h : PageHeader) (l b out : Bytes) : Type 0 where
+  clear : firstOf (writeChecks h l b (length out)) ≡ none
+  sum : total l ≡ length b
+  room : pageSize l b ≤ length out
+
+sound : (h : PageHeader) (l b out : Bytes) (n : ℕ) → writeTold h l b out ≡ gives n → Sound h l b out
+unfolding writeTold
+sound h l b out n e =
+    let clear = no-refusal (firstOf (writeChecks h l b (length out))) (pageSize l b) n e .0 in
+    let p = passes _ _ _ clear in
+    let q = passes _ _ _ (p .1) in
+    let r = passes _ _ _ (q .1) in
+    let s = passes _ _ _ (r .1) in
+    record { clear = clear; sum = eqb-true _ _ (not-false _ (q .0)); room = ltb-false _ _ (s .0) }
+
+read : (p : Bytes) → isOnePage p ≡ true → pageCrc p ≡ checksumOf p → readPage pageCrc p ≡ gives (headerOf p)
+unfolding readPage firstOf
+read p one ok = rw (one, eq-eqb (pageCrc p) (checksumOf p) ok)
+
+-- a page with its own checksum is read
+module _ (h : PageHeader) (x : ℕ) (l b : Bytes) (sum : total l ≡ length b) where
+  page-size : length (page h x l b) ≡ sizeOf (page h x l b)
+  unfolding sizeOf
+  page-size = rw (page-length h x l b, page-count h x l b, page-lacing h x l b, sum)
+
+  page-one : isOnePage (page h x l b) ≡ true
+  unfolding isOnePage
+  page-one = rw (page-capture h x l b, page-version h x l b, eq-eqb (length (page h x l b)) (sizeOf (page h x l b)) page-size)
+
+  page-reads : Fit h → pageCrc (page h x l b) ≡ x → x < 2 ^ 32 → ReadsAs (page h x l b) h l b
+  page-reads f e less = record {
+    header = read (page h x l b) page-one (e ∙ sym (page-checksum h x l b less)) ∙ ap gives (page-header h x l b f);
+    lacing = page-lacing h x l b;
+    body = page-body h x l b;
+  }
+
+pub reads-back : ReadsBack
+unfolding writeOut
+reads-back h l b out f e =
+    let s = sound h l b out _ e in
+    let x : ℕ = pageCrc (page h 0 l b) in
+    let n : length (page h x l b) ≡ pageSize l b = page-length h x l b in
+    rw (s .clear, sealed-page h l b, copied-fits out 0 (page h x l b) (omega arith), ← n, take-length, take-append-seam)
+    (page-reads h x l b (s .sum) f (page-crc h x l b) (page-crc-fits (page h 0 l b)))
+
+-- ---- writing what was read
+
+-- a field and what follows it
+field : (n at : ℕ) (p : Bytes) → Octets p → at + n ≤ length p → octets n (number n p at) ++ drop (at + n) p ≡ drop at p
+unfolding number
+field n at p o h =
+    let t : Bytes = take n (drop at p) in
+    let size : length t ≡ n = length-take-le n (drop at p) (simp length-drop (omega arith)) in
+    let same : octets n (value t) ≡ t = rw size at (octets-value t (octets-take n (drop at p) (octets-drop at p o))) in
+    rw (same, ← drop-drop n at p) (take-append-drop n (drop at p))
+
+byte : (at v : ℕ) (p : Bytes) → getD p at 0 ≡ v → at < length p → v ∷ drop (suc at) p ≡ drop at p
+byte at v p e h = rw (← e) (sym (drop-cons p at 0 h))
+
+capture : (p : Bytes) → hasCapture p ≡ true
+    → (getD p 0 0 ≡ 0x4f) × ((getD p 1 0 ≡ 0x67) × ((getD p 2 0 ≡ 0x67) × (getD p 3 0 ≡ 0x53)))
+unfolding hasCapture
+capture p h =
+    let a = equal-and _ _ _ h in
+    let b = equal-and _ _ _ (a .1) in
+    let c = equal-and _ _ _ (b .1) in
+    (a .0, (b .0, (c .0, eqb-true _ _ (c .1))))
+
+-- the bytes of a whole page
+module _ (p : Bytes) (one : isOnePage p ≡ true) where
+  captured : (hasCapture p ≡ true) × (eqb (versionOf p) 0 && eqb (length p) (sizeOf p) ≡ true)
+  unfolding isOnePage
+  captured = both (hasCapture p) _ one
+
+  version-whole : (versionOf p ≡ 0) × (eqb (length p) (sizeOf p) ≡ true)
+  version-whole = equal-and _ _ _ (captured .1)
+
+  whole : length p ≡ sizeOf p
+  whole = eqb-true _ _ (version-whole .1)
+
+  lacing-length : length (lacingOf p) ≡ countOf p
+  unfolding sizeOf lacingOf
+  lacing-length = let size = whole in simp (length-take, length-drop) (omega arith)
+
+  body-length : length (bodyOf p) ≡ total (lacingOf p)
+  unfolding sizeOf bodyOf
+  body-length = let size = whole in simp length-drop (omega arith)
+
+  size-same : pageSize (lacingOf p) (bodyOf p) ≡ length p
+  unfolding sizeOf
+  size-same = rw (lacing-length, body-length) (sym whole)
+
+  rebuilt : Octets p → page (headerOf p) (checksumOf p) (lacingOf p) (bodyOf p) ≡ p
+  unfolding page headerOf lacingOf bodyOf
+  rebuilt o =
+      let c = capture p (captured .0) in
+      let size : 27 ≤ length p = omega (arith, size-same) in
+      let end : lacingOf p ++ bodyOf p ≡ drop 27 p = rw (← drop-drop (countOf p) 27 p) (take-append-drop (countOf p) (drop 27 p)) in
+      rw (
+        end,
+        byte 26 (length (lacingOf p)) p (sym lacing-length) (omega arith),
+        field 4 22 p o (omega arith),
+        field 4 18 p o (omega arith),
+        field 4 14 p o (omega arith),
+        field 8 6 p o (omega arith),
+        byte 5 (getD p 5 0) p refl (omega arith),
+        byte 4 0 p (version-whole .0) (omega arith),
+        byte 3 0x53 p (c .1 .1 .1) (omega arith),
+        byte 2 0x67 p (c .1 .1 .0) (omega arith),
+        byte 1 0x67 p (c .1 .0) (omega arith),
+        byte 0 0x4f p (c .0) (omega arith),
+      )
+
+-- a writer with these passes its checks
+writes : (h : PageHeader) (l b out : Bytes) → length l ≤ 255 → total l ≡ length b → h .flags ≤ 7 → pageSize l b ≤ length out
+    → firstOf (writeChecks h l b (length out)) ≡ none
+unfolding firstOf
+writes h l b out few sum low room =
+    rw (le-ltb 255 (length l) few, eq-eqb (total l) (length b) sum, le-ltb 7 (h .flags) low, le-ltb (length out) (pageSize l b) room)
+
+pub writes-back : WritesBack
+unfolding writeTold writeOut readPage
+writes-back p out h o e low room =
+    let r = no-refusal (firstOf (readChecks pageCrc p)) (headerOf p) h e in
+    let a = passes _ _ _ (r .0) in
+    let one : isOnePage p ≡ true = not-false _ (a .0) in
+    let ok : pageCrc p ≡ checksumOf p = eqb-true _ _ (not-false _ (passes _ _ _ (a .1) .0)) in
+    let l : Bytes = lacingOf p in
+    let b : Bytes = bodyOf p in
+    let again : page h (checksumOf p) l b ≡ p = rw (r .1) at (rebuilt p one o) in
+    let crc : pageCrc (page h 0 l b) ≡ checksumOf p = sym (page-crc h (checksumOf p) l b) ∙ ap pageCrc again ∙ ok in
+    let same : pageBytes h l b ≡ p = sealed-page h l b ∙ rw crc again in
+    let size : pageSize l b ≡ length p = size-same p one in
+    let clear : firstOf (writeChecks h l b (length out)) ≡ none =
+    (writes h l b out (omega (arith, o .below 26, lacing-length p one)) (sym (body-length p one)) low (omega arith)) in
+    (rw clear (ap gives size), rw (clear, same))

@@ -1,0 +1,15 @@
+-- What a call tells: what it gives, or a refusal's number and nothing else (document 01, "A refusal returns its number
+-- only"). The promise of every function that can refuse goes through this. Assumes nothing.
+use Prim.Native.Nat.{ℕ}
+use mathlib.Core.Option.{Option, none, some}
+use Rattle.refusal.specs.declared.Refusal.{Refusal}
+use Rattle.refusal.specs.Numbers.{numberOf}
+
+pub data Told (A : Type 0) : Type 0 where
+  gives : A → Told A
+  refuses : ℕ → Told A
+
+-- what is told where the checks found this refusal, or none
+abbrev pub decided : {A : Type 0} → Option Refusal → A → Told A
+decided none a = gives a
+decided (some r) a = refuses (numberOf r)

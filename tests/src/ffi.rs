@@ -1,0 +1,53 @@
+//! The C interface (include/embulgri.h) with safe wrappers on slices. A slice's pointer is never
+//! null, also where its length is 0, and the borrow rules keep the buffers from overlapping.
+
+use crate::ogg::Page;
+
+extern "C" {
+    fn embulgri_checksum(bytes: *const u8, n: usize) -> u32;
+    fn embulgri_page_read(page: *const u8, n: usize, out: *mut u64) -> u32;
+    fn embulgri_page_write(
+        flags: u64,
+        granule: u64,
+        serial: u32,
+        sequence: u32,
+        lacing: *const u8,
+        lacing_n: usize,
+        body: *const u8,
+        body_n: usize,
+        out: *mut u8,
+        out_n: usize,
+        written: *mut u64,
+    ) -> u32;
+}
+
+pub fn checksum(bytes: &[u8]) -> u32 {
+    // SAFETY: the pointer and the length are those of one slice.
+    unsafe { embulgri_checksum(bytes.as_ptr(), bytes.len()) }
+}
+
+pub fn page_read(page: &[u8], out: &mut [u64; 6]) -> u32 {
+    // SAFETY: the pointer and the length are those of one slice; `out` has the six places that are
+    // written.
+    unsafe { embulgri_page_read(page.as_ptr(), page.len(), out.as_mut_ptr()) }
+}
+
+pub fn page_write(page: &Page, out: &mut [u8], written: &mut u64) -> u32 {
+    // SAFETY: each pointer goes with the length of its own slice; `out` and `written` are borrowed
+    // mutably, so they overlap nothing.
+    unsafe {
+        embulgri_page_write(
+            page.flags,
+            page.granule,
+            page.serial,
+            page.sequence,
+            page.lacing.as_ptr(),
+            page.lacing.len(),
+            page.body.as_ptr(),
+            page.body.len(),
+            out.as_mut_ptr(),
+            out.len(),
+            written,
+        )
+    }
+}

@@ -1,0 +1,62 @@
+//! Counts of the answers in a run. A run that hardly ever reaches an answer shows little of it, so
+//! the counts are printed and held to a minimum.
+
+use std::collections::BTreeMap;
+use std::io::{self, Write};
+
+const LEAST_INPUTS: usize = 100_000;
+const LEAST_OF_EACH_REFUSAL: usize = 1_000;
+
+#[derive(Default)]
+pub struct Tally {
+    counts: BTreeMap<u32, usize>,
+}
+
+impl Tally {
+    pub fn add(&mut self, answer: u32) {
+        *self.counts.entry(answer).or_default() += 1;
+    }
+
+    /// Prints the counts. Fails unless there were enough inputs, a third of them were accepted,
+    /// each of the refusals came often enough, and no other number came.
+    pub fn finish(&self, run: &str, refusals: &[u32]) {
+        let total: usize = self.counts.values().sum();
+        say(&format!("{run}: {total} inputs, {}", self.listing()));
+        assert!(total >= LEAST_INPUTS, "{run}: too few inputs");
+        assert!(3 * self.of(0) >= total, "{run}: too few accepted");
+        for &number in refusals {
+            assert!(
+                self.of(number) >= LEAST_OF_EACH_REFUSAL,
+                "{run}: too few refused by {number}"
+            );
+        }
+        let known = self.of(0)
+            + refusals
+                .iter()
+                .map(|&number| self.of(number))
+                .sum::<usize>();
+        assert_eq!(known, total, "{run}: an answer that cannot occur");
+    }
+
+    fn of(&self, answer: u32) -> usize {
+        self.counts.get(&answer).copied().unwrap_or(0)
+    }
+
+    fn listing(&self) -> String {
+        let parts: Vec<String> = self
+            .counts
+            .iter()
+            .map(|(answer, count)| match answer {
+                0 => format!("accepted {count}"),
+                number => format!("refused by {number}: {count}"),
+            })
+            .collect();
+        parts.join(", ")
+    }
+}
+
+/// Prints a line that shows in a passing run too: the test harness holds back what `eprintln!`
+/// prints.
+pub fn say(line: &str) {
+    writeln!(io::stderr(), "{line}").expect("standard error takes a line");
+}
