@@ -1,3 +1,4 @@
 pub mod Copying
 pub mod Numbers
 pub mod Parts
+pub mod Tests

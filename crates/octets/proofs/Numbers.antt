@@ -9,6 +9,7 @@ use lib.ListN.{length, getD, take, drop}
 use lib.Seq.{take-nil}
 use Rattle.octets.specs.Octets.{Bytes, Octets}
 use Rattle.octets.specs.Numbers.{value, octets}
+use Rattle.octets.proofs.Parts.{octets-tail}
 
 -- one byte more in front
 value-step : (s : Bytes) (q j : ℕ) → value (take (suc j) (drop q s)) ≡ getD s q 0 + 256 * value (take j (drop (suc q) s))
@@ -51,9 +52,6 @@ value-octets (suc n) x h =
     let less : x / 256 < p = omega arith in
     ap (λ (v : ℕ). x % 256 + 256 * v) (value-octets n (x / 256) less) ∙ omega arith
 
-tail-octets : (b : ℕ) (s : Bytes) → Octets (b ∷ s) → Octets s
-tail-octets b s o = record { below = λ i. o .below (suc i) }
-
 pub octets-value : (s : Bytes) → Octets s → octets (length s) (value s) ≡ s
 unfolding value octets
 octets-value [] o = refl
@@ -62,7 +60,7 @@ octets-value (b ∷ s) o =
     let v : ℕ = value s in
     let head : (b + 256 * v) % 256 ≡ b = omega arith in
     let rest : (b + 256 * v) / 256 ≡ v = omega arith in
-    ap₂ (λ (h : ℕ) (t : Bytes). h ∷ t) head (ap (octets (length s)) rest ∙ octets-value s (tail-octets b s o))
+    ap₂ (λ (h : ℕ) (t : Bytes). h ∷ t) head (ap (octets (length s)) rest ∙ octets-value s (octets-tail o))
 
 pub value-fits : (s : Bytes) → Octets s → value s < 256 ^ length s
 unfolding value
@@ -70,4 +68,4 @@ value-fits [] o = omega arith
 value-fits (b ∷ s) o =
     let p : ℕ = 256 ^ length s in
     let e : 256 ^ suc (length s) ≡ p * 256 = pow-suc 256 (length s) in
-    omega (arith, o .below 0, value-fits s (tail-octets b s o))
+    omega (arith, o .below 0, value-fits s (octets-tail o))

@@ -1,10 +1,12 @@
--- Parts of a list whose ends are cut to the list's. Assumes nothing.
+-- Parts of a list of bytes: their ends cut to the list's, and their bytes. Assumes nothing.
 use mathlib.Core.Path.{_≡_, ap}
 use mathlib.Core.List.{List, [], _∷_}
-use Prim.Native.Nat.{ℕ, zero, suc, min}
+use Prim.Native.Nat.{ℕ, zero, suc, _+_, _<_, min}
 use native.Mathlib.Nat.{zero-min, min-zero, suc-min-suc}
-use lib.ListN.{length, take, drop}
-use Rattle.octets.specs.Octets.{Bytes}
+use lib.Dec.{lit<}
+use lib.ListN.{length, getD, take, drop}
+use lib.Seq.{getD-drop}
+use Rattle.octets.specs.Octets.{Bytes, Octets}
 
 pub take-min : (n : ℕ) (s : Bytes) → take (min n (length s)) s ≡ take n s
 take-min zero s = rw zero-min
@@ -15,3 +17,19 @@ pub drop-min : (n : ℕ) (s : Bytes) → drop (min n (length s)) s ≡ drop n s
 drop-min zero s = rw zero-min
 drop-min (suc n) [] = rw min-zero
 drop-min (suc n) (b ∷ s) = rw suc-min-suc (drop-min n s)
+
+-- a part of a list of bytes is one
+pub octets-tail : {b : ℕ} {s : Bytes} → Octets (b ∷ s) → Octets s
+octets-tail o = record { below = λ i. o .below (suc i) }
+
+pub octets-drop : (n : ℕ) (s : Bytes) → Octets s → Octets (drop n s)
+octets-drop n s o = record { below = λ i. rw getD-drop (o .below (n + i)) }
+
+take-below : (n : ℕ) (s : Bytes) → Octets s → (i : ℕ) → getD (take n s) i 0 < 256
+take-below zero s o i = lit< tt
+take-below (suc n) [] o i = lit< tt
+take-below (suc n) (b ∷ s) o zero = o .below 0
+take-below (suc n) (b ∷ s) o (suc i) = take-below n s (octets-tail o) i
+
+pub octets-take : (n : ℕ) (s : Bytes) → Octets s → Octets (take n s)
+octets-take n s o = record { below = take-below n s o }

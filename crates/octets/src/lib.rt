@@ -19,10 +19,11 @@ pub fn byte_at(s: &[u8], at: usize) -> u8
     if at < s.len() { s[at] } else { 0 }
 }
 
-fn wide(x: u8) -> u64
-    ensures { λ r. ⌜ (r ≡ x) × (r < 256) ⌝ }
+// A byte as a count or an index.
+pub fn wide(x: u8) -> usize
+    ensures { λ r. ⌜ (r ≡ x) × (r ≤ 255) ⌝ }
 {
-    x as u64
+    x as usize
 }
 
 // The number in the n bytes from `at` on. The last byte comes first, so that each turn is one digit more.
@@ -36,7 +37,7 @@ fn number_at(s: &[u8], at: usize, n: usize) -> u64
     let mut x: u64 = 0;
     for j in 0..n {
         let b = byte_at(s, at + (n - 1 - j));
-        x = x * 256 + wide(b);
+        x = x * 256 + wide(b) as u64;
     }
     x
 }

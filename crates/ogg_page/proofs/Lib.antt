@@ -1,11 +1,9 @@
-pub mod Tests
 pub mod Fields
 pub mod Reading
 pub mod Extents
 pub mod Writing
 pub mod Pieces
 pub mod Cover
-pub mod Passed
 pub mod Written
 pub mod RoundTrip
 pub mod Lent

@@ -5,7 +5,7 @@ use mathlib.Core.List.{_∷_, _++_}
 use mathlib.Core.Option.{none}
 use Prim.Native.Nat.{ℕ, suc, _+_, _^_, _≤_, _<_}
 use native.Mathlib.Omega.{arith}
-use borrow.Author.Tests.{ltb-false, eqb-true, not-false, le-ltb, eq-eqb}
+use borrow.Author.Tests.{ltb-false, eqb-true, not-false, eq-eqb}
 use lib.Dec.{eqb}
 use lib.ListN.{length, getD, take, drop, length-take, length-drop, take-append-drop}
 use lib.Seq.{length-take-le, take-length, take-append-seam, drop-cons, drop-drop}
@@ -13,17 +13,20 @@ use Rattle.octets.specs.Octets.{Bytes, Octets, total}
 use Rattle.octets.specs.Numbers.{value, octets, number}
 use Rattle.octets.proofs.Numbers.{octets-value}
 use Rattle.octets.proofs.Copying.{copied-fits}
+use Rattle.octets.proofs.Parts.{octets-drop, octets-take}
+use Rattle.octets.proofs.Tests.{both, equal-and}
+use Rattle.refusal.proofs.Checks.{no-refusal, passed}
 use Rattle.refusal.specs.Checks.{firstOf}
 use Rattle.refusal.specs.Told.{gives}
 use Rattle.ogg_crc.specs.Crc.{pageCrc}
 use Rattle.ogg_crc.proofs.Page.{page-crc-fits}
-use Rattle.ogg_crc.proofs.Slice.{octets-drop, octets-take}
 use Rattle.ogg_page.specs.declared.PageHeader.{PageHeader}
 use Rattle.ogg_page.specs.Page.{hasCapture, versionOf, headerOf, checksumOf, countOf, lacingOf, bodyOf, sizeOf}
 use Rattle.ogg_page.specs.Reading.{isOnePage, readChecks, readPage}
 use Rattle.ogg_page.specs.Writing.{pageBytes, pageSize, writeChecks, writeTold, writeOut}
 use Rattle.ogg_page.specs.Statements.{Fit, ReadsAs, ReadsBack, WritesBack}
-use Rattle.ogg_page.proofs.Passed.{no-refusal, passes, both, equal-and}
+use Rattle.ogg_page.proofs.Reading.{right-page}
+use Rattle.ogg_page.proofs.Writing.{writable}
 use Rattle.ogg_page.proofs.Written.{page, page-length, page-capture, page-version, page-count, page-lacing, page-body, page-header, page-checksum, page-crc, sealed-page}
 
 -- ---- reading what was written
@@ -38,15 +41,11 @@ sound : (h : PageHeader) (l b out : Bytes) (n : ℕ) → writeTold h l b out ≡
 unfolding writeTold
 sound h l b out n e =
     let clear = no-refusal (firstOf (writeChecks h l b (length out))) (pageSize l b) n e .0 in
-    let p = passes _ _ _ clear in
-    let q = passes _ _ _ (p .1) in
-    let r = passes _ _ _ (q .1) in
-    let s = passes _ _ _ (r .1) in
+    let p = passed _ _ _ clear in
+    let q = passed _ _ _ (p .1) in
+    let r = passed _ _ _ (q .1) in
+    let s = passed _ _ _ (r .1) in
     record { clear = clear; sum = eqb-true _ _ (not-false _ (q .0)); room = ltb-false _ _ (s .0) }
-
-read : (p : Bytes) → isOnePage p ≡ true → pageCrc p ≡ checksumOf p → readPage pageCrc p ≡ gives (headerOf p)
-unfolding readPage firstOf
-read p one ok = rw (one, eq-eqb (pageCrc p) (checksumOf p) ok)
 
 -- a page with its own checksum is read
 module _ (h : PageHeader) (x : ℕ) (l b : Bytes) (sum : total l ≡ length b) where
@@ -60,7 +59,7 @@ module _ (h : PageHeader) (x : ℕ) (l b : Bytes) (sum : total l ≡ length b) w
 
   page-reads : Fit h → pageCrc (page h x l b) ≡ x → x < 2 ^ 32 → ReadsAs (page h x l b) h l b
   page-reads f e less = record {
-    header = read (page h x l b) page-one (e ∙ sym (page-checksum h x l b less)) ∙ ap gives (page-header h x l b f);
+    header = right-page pageCrc (page h x l b) page-one (eq-eqb _ _ (e ∙ sym (page-checksum h x l b less))) ∙ ap gives (page-header h x l b f);
     lacing = page-lacing h x l b;
     body = page-body h x l b;
   }
@@ -142,20 +141,13 @@ module _ (p : Bytes) (one : isOnePage p ≡ true) where
         byte 0 0x4f p (c .0) (omega arith),
       )
 
--- a writer with these passes its checks
-writes : (h : PageHeader) (l b out : Bytes) → length l ≤ 255 → total l ≡ length b → h .flags ≤ 7 → pageSize l b ≤ length out
-    → firstOf (writeChecks h l b (length out)) ≡ none
-unfolding firstOf
-writes h l b out few sum low room =
-    rw (le-ltb 255 (length l) few, eq-eqb (total l) (length b) sum, le-ltb 7 (h .flags) low, le-ltb (length out) (pageSize l b) room)
-
 pub writes-back : WritesBack
 unfolding writeTold writeOut readPage
 writes-back p out h o e low room =
     let r = no-refusal (firstOf (readChecks pageCrc p)) (headerOf p) h e in
-    let a = passes _ _ _ (r .0) in
+    let a = passed _ _ _ (r .0) in
     let one : isOnePage p ≡ true = not-false _ (a .0) in
-    let ok : pageCrc p ≡ checksumOf p = eqb-true _ _ (not-false _ (passes _ _ _ (a .1) .0)) in
+    let ok : pageCrc p ≡ checksumOf p = eqb-true _ _ (not-false _ (passed _ _ _ (a .1) .0)) in
     let l : Bytes = lacingOf p in
     let b : Bytes = bodyOf p in
     let again : page h (checksumOf p) l b ≡ p = rw (r .1) at (rebuilt p one o) in
@@ -163,5 +155,5 @@ writes-back p out h o e low room =
     let same : pageBytes h l b ≡ p = sealed-page h l b ∙ rw crc again in
     let size : pageSize l b ≡ length p = size-same p one in
     let clear : firstOf (writeChecks h l b (length out)) ≡ none =
-    (writes h l b out (omega (arith, o .below 26, lacing-length p one)) (sym (body-length p one)) low (omega arith)) in
+    (writable h l b (length out) (omega (arith, o .below 26, lacing-length p one)) (sym (body-length p one)) low (omega arith)) in
     (rw clear (ap gives size), rw (clear, same))

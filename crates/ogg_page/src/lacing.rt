@@ -1,6 +1,4 @@
 // Lacing values: 255 goes on, a smaller one ends a packet.
-ghost use mathlib.Core.Path.{_≡_};
-ghost use Prim.Native.Nat.{ℕ, _≤_};
 ghost use Rattle.ogg_page.specs.Lacing.{PiecesAre};
 
 // How many packets end, the length of each, and how many bytes are left of a packet that goes on. Places of `lengths` past
@@ -9,12 +7,6 @@ pub struct Pieces {
     pub count: usize,
     pub lengths: [usize; 255],
     pub unfinished: usize,
-}
-
-fn wide(x: u8) -> usize
-    ensures { λ r. ⌜ (r ≡ x) × (r ≤ 255) ⌝ }
-{
-    x as usize
 }
 
 // The pieces of a lacing list. A page has at most 255 values: of a longer list the first 255 count.
@@ -27,7 +19,7 @@ pub fn pieces_of(lacing: &[u8]) -> Pieces
     let end = octets::least(lacing.len(), 255);
     let mut i = 0;
     while i < end {
-        let v = wide(lacing[i]);
+        let v = octets::wide(lacing[i]);
         bytes += v;
         if v < 255 {
             lengths[count] = bytes;

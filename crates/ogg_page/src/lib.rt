@@ -40,12 +40,6 @@ pub enum PageWritten {
     Refused(Refusal),
 }
 
-fn wide(x: u8) -> usize
-    ensures { λ r. ⌜ (r ≡ x) × (r ≤ 255) ⌝ }
-{
-    x as usize
-}
-
 // Whether the bytes begin with "OggS".
 fn has_capture(s: &[u8]) -> bool
     ensures { λ r. ⌜ r ≡ hasCapture (now (s .entry)) ⌝ }
@@ -66,7 +60,7 @@ fn has_capture(s: &[u8]) -> bool
 pub fn lacing_of(page: &[u8]) -> &[u8]
     ensures { λ r. ⌜ now r ≡ lacingOf (now (page .entry)) ⌝ }
 {
-    let count = wide(octets::byte_at(page, 26));
+    let count = octets::wide(octets::byte_at(page, 26));
     let start = octets::least(27, page.len());
     let end = octets::least(27 + count, page.len());
     &page[start..end]
@@ -76,7 +70,7 @@ pub fn lacing_of(page: &[u8]) -> &[u8]
 pub fn body_of(page: &[u8]) -> &[u8]
     ensures { λ r. ⌜ now r ≡ bodyOf (now (page .entry)) ⌝ }
 {
-    let count = wide(octets::byte_at(page, 26));
+    let count = octets::wide(octets::byte_at(page, 26));
     let start = octets::least(27 + count, page.len());
     &page[start..]
 }
@@ -89,7 +83,7 @@ fn sum(values: &[u8]) -> usize
     let mut n: usize = 0;
     let mut i = 0;
     while i < values.len() {
-        n += wide(values[i]);
+        n += octets::wide(values[i]);
         i += 1;
     }
     n
@@ -99,7 +93,7 @@ fn sum(values: &[u8]) -> usize
 fn size_of(page: &[u8]) -> usize
     ensures { λ r. ⌜ (r ≡ sizeOf (now (page .entry))) × (r ≤ 65307) ⌝ }
 {
-    27 + wide(octets::byte_at(page, 26)) + sum(lacing_of(page))
+    27 + octets::wide(octets::byte_at(page, 26)) + sum(lacing_of(page))
 }
 
 // Where the page would end that s, the bytes from place `at` of a buffer on, begins with.
@@ -113,7 +107,7 @@ fn extent_in(s: &[u8], at: usize) -> Extent
     if !has_capture(s) {
         return Extent::NoPage;
     }
-    if s.len() < 27 + wide(octets::byte_at(s, 26)) {
+    if s.len() < 27 + octets::wide(octets::byte_at(s, 26)) {
         return Extent::Short;
     }
     Extent::Ends(at + size_of(s))

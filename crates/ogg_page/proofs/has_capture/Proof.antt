@@ -8,19 +8,19 @@ use lib.Dec.{eqb}
 use lib.ListN.{getD}
 use Rattle.octets.specs.Octets.{Bytes}
 use Rattle.ogg_page.specs.Page.{hasCapture}
-use Rattle.ogg_page.proofs.Tests.{passes, fails}
+use Rattle.octets.proofs.Tests.{equals, unequal}
 use Rattle.ogg_page.proofs.has_capture.Statement.{statement}
 use Rattle.ogg_page.proofs.has_capture.Tie as tie
 
 returns : tie.Need-returns
 unfolding hasCapture
-returns c = simp (fails (c .before .byte-at .ensures) (c .if1 .taken))
+returns c = simp (unequal (c .before .byte-at .ensures) (c .if1 .taken))
 
 returns-2 : tie.Need-returns-2
 unfolding hasCapture
 returns-2 c =
     let one = c .before .before in
-    simp (passes (one .before .byte-at .ensures) (one .if1 .left), fails (c .before .byte-at2 .ensures) (c .if2 .taken))
+    simp (equals (one .before .byte-at .ensures) (one .if1 .left), unequal (c .before .byte-at2 .ensures) (c .if2 .taken))
 
 returns-3 : tie.Need-returns-3
 unfolding hasCapture
@@ -28,9 +28,9 @@ returns-3 c =
     let two = c .before .before in
     let one = two .before .before in
     simp (
-      passes (one .before .byte-at .ensures) (one .if1 .left),
-      passes (two .before .byte-at2 .ensures) (two .if2 .left),
-      fails (c .before .byte-at3 .ensures) (c .if3 .taken),
+      equals (one .before .byte-at .ensures) (one .if1 .left),
+      equals (two .before .byte-at2 .ensures) (two .if2 .left),
+      unequal (c .before .byte-at3 .ensures) (c .if3 .taken),
     )
 
 -- where three bytes are right, the fourth decides
@@ -45,8 +45,8 @@ returns-4 c =
     let two = three .before .before in
     let one = two .before .before in
     ap (λ (x : ℕ). eqb x 0x53) (c .byte-at4 .ensures)
-    ∙ fourth (now (one .before .before .before .args .s)) (passes (one .before .byte-at .ensures) (one .if1 .left))
-    (passes (two .before .byte-at2 .ensures) (two .if2 .left)) (passes (three .before .byte-at3 .ensures) (three .if3 .left))
+    ∙ fourth (now (one .before .before .before .args .s)) (equals (one .before .byte-at .ensures) (one .if1 .left))
+    (equals (two .before .byte-at2 .ensures) (two .if2 .left)) (equals (three .before .byte-at3 .ensures) (three .if3 .left))
 
 pub has-capture-spec : {M : Type 1} → statement M
 has-capture-spec =

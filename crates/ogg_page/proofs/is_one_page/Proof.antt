@@ -6,7 +6,7 @@ use borrow.Author.Tests.{not-true, not-false}
 use denote.Ref.{now}
 use lib.Dec.{eqb}
 use lib.ListN.{length}
-use Rattle.ogg_page.proofs.Tests.{passes, fails}
+use Rattle.octets.proofs.Tests.{equals, unequal}
 use Rattle.ogg_page.proofs.Reading.{no-capture, other-version, size-decides}
 use Rattle.ogg_page.proofs.is_one_page.Statement.{statement}
 use Rattle.ogg_page.proofs.is_one_page.Tie as tie
@@ -22,7 +22,7 @@ returns-2 c =
     let call = first .before .has-capture in
     sym
     (other-version (now (first .before .before .before .args .page)) (sym (call .ensures) ∙ not-false (call .result) (first .if1 .left))
-    (fails (c .before .byte-at .ensures) (c .if2 .taken)))
+    (unequal (c .before .byte-at .ensures) (c .if2 .taken)))
 
 returns-3 : tie.Need-returns-3
 returns-3 c =
@@ -33,7 +33,7 @@ returns-3 c =
     ap (eqb (length page)) (c .size-of .ensures .0)
     ∙ sym
     (size-decides page (sym (call .ensures) ∙ not-false (call .result) (first .if1 .left))
-    (passes (second .before .byte-at .ensures) (second .if2 .left)))
+    (equals (second .before .byte-at .ensures) (second .if2 .left)))
 
 pub is-one-page-spec : {M : Type 1} → statement M
 is-one-page-spec =

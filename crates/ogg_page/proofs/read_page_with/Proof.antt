@@ -5,7 +5,7 @@ use borrow.Author.Tests.{not-true, not-false}
 use denote.Ref.{now}
 use Rattle.refusal.specs.Told.{gives}
 use Rattle.ogg_crc.specs.Sliced.{pageSliced}
-use Rattle.ogg_page.proofs.Tests.{agrees, differs}
+use Rattle.octets.proofs.Tests.{agrees, differs}
 use Rattle.ogg_page.proofs.Reading.{not-one-page, wrong-checksum, right-page}
 use Rattle.ogg_page.proofs.read_page_with.Statement.{statement}
 use Rattle.ogg_page.proofs.read_page_with.Tie as tie
