@@ -1,4 +1,4 @@
-/* Embulgri: a verified library for Ogg Opus streams (RFC 3533, RFC 7845).
+/* Embulgri: a verified library for Ogg Opus streams (RFC 3533, RFC 6716, RFC 7845).
  *
  * The static library target/staticlib/libembulgri.a, built by `rt staticlib embulgri`, is for x86-64 Linux.
  *
@@ -34,6 +34,14 @@ uint32_t embulgri_page_read(const uint8_t *page, size_t n, uint64_t out[6]);
 uint32_t embulgri_page_write(uint64_t flags, uint64_t granule, uint32_t serial, uint32_t sequence,
                              const uint8_t *lacing, size_t lacing_n, const uint8_t *body, size_t body_n,
                              uint8_t *out, size_t out_n, uint64_t *written);
+
+/* Reads one audio packet of so many streams: one Opus packet for each, all but the last self-delimited (RFC 6716,
+ * Appendix B). *samples: their length in samples at 48 kHz, which is one and the same.
+ *   13  streams is not from 1 to 255
+ *   15  not 13, and one of the Opus packets is illegal (RFC 6716, section 3.4), or n is 0
+ *   16  neither, and the Opus packets differ in length
+ *   0   none of these; the length is stored */
+uint32_t embulgri_packet_read(const uint8_t *packet, size_t n, uint64_t streams, uint64_t *samples);
 
 #ifdef __cplusplus
 }

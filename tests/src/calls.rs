@@ -3,20 +3,9 @@
 
 use crate::ffi;
 use crate::ogg::{self, Page, HEAD};
-use std::ops::Range;
-
-/// What the reader's places hold before a call. It is lent the middle six alone.
-const OLD_NUMBERS: [u64; 8] = [
-    0xa5a5_0000_1111_5a5a,
-    0xa5a5_0000_2222_5a5a,
-    0xa5a5_0000_3333_5a5a,
-    0xa5a5_0000_4444_5a5a,
-    0xa5a5_0000_5555_5a5a,
-    0xa5a5_0000_6666_5a5a,
-    0xa5a5_0000_7777_5a5a,
-    0xa5a5_0000_8888_5a5a,
-];
-const LENT_NUMBERS: Range<usize> = 1..7;
+use crate::opus;
+use crate::reading::Reading;
+use std::fmt::Display;
 
 /// What the length written is before a call.
 const OLD_LENGTH: u64 = 0xa5a5_0000_9999_5a5a;
@@ -24,46 +13,6 @@ const OLD_LENGTH: u64 = 0xa5a5_0000_9999_5a5a;
 /// The bytes watched before and behind the writer's output.
 pub const BEFORE: usize = 16;
 const BEHIND: usize = 64;
-
-/// What a call of the reader leaves: its answer and all the places.
-#[derive(Debug, PartialEq)]
-pub struct Reading {
-    answer: u32,
-    places: [u64; 8],
-}
-
-impl Reading {
-    pub fn by_library(bytes: &[u8]) -> Reading {
-        let mut places = OLD_NUMBERS;
-        let lent = (&mut places[LENT_NUMBERS]).try_into().expect("six places");
-        let answer = ffi::page_read(bytes, lent);
-        Reading { answer, places }
-    }
-
-    pub fn by_rules(bytes: &[u8]) -> Reading {
-        match ogg::read(bytes) {
-            Ok(page) => Reading::accepted(page.numbers()),
-            Err(answer) => Reading::refused(answer),
-        }
-    }
-
-    pub fn accepted(numbers: [u64; 6]) -> Reading {
-        let mut places = OLD_NUMBERS;
-        places[LENT_NUMBERS].copy_from_slice(&numbers);
-        Reading { answer: 0, places }
-    }
-
-    pub fn refused(answer: u32) -> Reading {
-        Reading {
-            answer,
-            places: OLD_NUMBERS,
-        }
-    }
-
-    fn numbers(&self) -> &[u64] {
-        &self.places[LENT_NUMBERS]
-    }
-}
 
 /// What the writer is given: a page, and an output of `room` bytes behind `before` others.
 pub struct Request<'a> {
@@ -144,12 +93,32 @@ pub fn assert_same_bytes(found: &[u8], expected: &[u8], case: &str) {
     }
 }
 
-/// Reads bytes by the library, holds it to the rules and gives the answer.
+/// What the library's reader of pages leaves.
+pub fn read_page(bytes: &[u8]) -> Reading {
+    Reading::by_library(|places| ffi::page_read(bytes, places))
+}
+
+/// Reads a page by the library, holds it to the rules and gives the answer.
 pub fn check_reading(bytes: &[u8], case: &str) -> u32 {
-    let reading = Reading::by_library(bytes);
+    let reading = read_page(bytes);
+    let expected = Reading::by_rules(ogg::read(bytes).map(|page| page.numbers()));
     let length = bytes.len();
-    assert_eq!(reading, Reading::by_rules(bytes), "{length} bytes, {case}");
+    assert_eq!(reading, expected, "{length} bytes, {case}");
     reading.answer
+}
+
+/// Reads an audio packet by the library, holds it to the rules and gives what they tell.
+pub fn check_packet(packet: &[u8], streams: u64, case: impl Display) -> Result<u64, u32> {
+    let told = opus::read(packet, streams);
+    let reading =
+        Reading::by_library(|[samples]: &mut [u64; 1]| ffi::packet_read(packet, streams, samples));
+    let expected = Reading::by_rules(told.map(|samples| [samples]));
+    let (length, start) = (packet.len(), &packet[..packet.len().min(24)]);
+    assert_eq!(
+        reading, expected,
+        "{streams} streams, {length} bytes from {start:02x?}, {case}"
+    );
+    told
 }
 
 /// Writes a page by the library, holds it to the rules and gives the answer.
@@ -170,11 +139,9 @@ pub fn written(page: &Page) -> Vec<u8> {
 
 /// The page that the library finds in bytes: its fields from the numbers, the rest by the counts.
 pub fn found(bytes: &[u8]) -> Page {
-    let reading = Reading::by_library(bytes);
+    let reading = read_page(bytes);
     assert_eq!(reading.answer, 0);
-    let &[flags, granule, serial, sequence, values, length] = reading.numbers() else {
-        panic!("six numbers");
-    };
+    let [flags, granule, serial, sequence, values, length] = reading.numbers();
     let (lacing, body) = bytes[HEAD..].split_at(values as usize);
     assert_eq!(body.len() as u64, length);
     Page {

@@ -19,6 +19,7 @@ extern "C" {
         out_n: usize,
         written: *mut u64,
     ) -> u32;
+    fn embulgri_packet_read(packet: *const u8, n: usize, streams: u64, samples: *mut u64) -> u32;
 }
 
 pub fn checksum(bytes: &[u8]) -> u32 {
@@ -50,4 +51,10 @@ pub fn page_write(page: &Page, out: &mut [u8], written: &mut u64) -> u32 {
             written,
         )
     }
+}
+
+pub fn packet_read(packet: &[u8], streams: u64, samples: &mut u64) -> u32 {
+    // SAFETY: the pointer and the length are those of one slice; `samples` is the one place that is
+    // written.
+    unsafe { embulgri_packet_read(packet.as_ptr(), packet.len(), streams, samples) }
 }

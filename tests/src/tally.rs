@@ -4,7 +4,6 @@
 use std::collections::BTreeMap;
 use std::io::{self, Write};
 
-const LEAST_INPUTS: usize = 100_000;
 const LEAST_OF_EACH_REFUSAL: usize = 1_000;
 
 #[derive(Default)]
@@ -17,12 +16,21 @@ impl Tally {
         *self.counts.entry(answer).or_default() += 1;
     }
 
+    /// Prints the counts.
+    pub fn print(&self, run: &str) {
+        say(&format!(
+            "{run}: {} inputs, {}",
+            self.total(),
+            self.listing()
+        ));
+    }
+
     /// Prints the counts. Fails unless there were enough inputs, a third of them were accepted,
     /// each of the refusals came often enough, and no other number came.
-    pub fn finish(&self, run: &str, refusals: &[u32]) {
-        let total: usize = self.counts.values().sum();
-        say(&format!("{run}: {total} inputs, {}", self.listing()));
-        assert!(total >= LEAST_INPUTS, "{run}: too few inputs");
+    pub fn finish(&self, run: &str, least_inputs: usize, refusals: &[u32]) {
+        self.print(run);
+        let total = self.total();
+        assert!(total >= least_inputs, "{run}: too few inputs");
         assert!(3 * self.of(0) >= total, "{run}: too few accepted");
         for &number in refusals {
             assert!(
@@ -36,6 +44,10 @@ impl Tally {
                 .map(|&number| self.of(number))
                 .sum::<usize>();
         assert_eq!(known, total, "{run}: an answer that cannot occur");
+    }
+
+    fn total(&self) -> usize {
+        self.counts.values().sum()
     }
 
     fn of(&self, answer: u32) -> usize {

@@ -2,7 +2,7 @@
 //! docs/PROMISES.md.
 
 use embulgri_tests::calls::{
-    assert_same_bytes, check_reading, check_writing, found, written, Reading, Request, BEFORE,
+    assert_same_bytes, check_reading, check_writing, found, read_page, written, Request, BEFORE,
 };
 use embulgri_tests::damages::{DAMAGES, UNDAMAGED};
 use embulgri_tests::demands::{DEMANDS, LEGAL, ROOMS};
@@ -10,9 +10,11 @@ use embulgri_tests::ffi;
 use embulgri_tests::inputs;
 use embulgri_tests::ogg::{self, Page, ILLEGAL_PAGE, LONGEST, NOT_A_PAGE, NO_ROOM, WRONG_CHECKSUM};
 use embulgri_tests::random::Random;
+use embulgri_tests::reading::Reading;
 use embulgri_tests::tally::Tally;
 
 const CASES: usize = 120_000;
+const LEAST_CASES: usize = 100_000;
 const ROUND_TRIPS: usize = 20_000;
 
 /// The first page of an Opus stream: an identification header of two channels and pre-skip 312.
@@ -84,11 +86,10 @@ fn checksum_is_the_bitwise_one_at_random_lengths() {
 
 #[test]
 fn reading_a_known_page_gives_its_numbers() {
-    let head = Reading::by_library(&OPUS_HEAD_PAGE);
-    assert_eq!(head, Reading::accepted([2, 0, 0x1267, 0, 1, 19]));
-    let ordered = Reading::by_library(&ORDERED_PAGE);
+    let numbers = [2, 0, 0x1267, 0, 1, 19];
+    assert_eq!(read_page(&OPUS_HEAD_PAGE), Reading::accepted(numbers));
     let numbers = [5, 0x0102_0304_0506_0708, 0x1112_1314, 0x2122_2324, 3, 4];
-    assert_eq!(ordered, Reading::accepted(numbers));
+    assert_eq!(read_page(&ORDERED_PAGE), Reading::accepted(numbers));
 }
 
 #[test]
@@ -116,7 +117,7 @@ fn writing_a_known_page_gives_its_bytes() {
 #[test]
 fn reading_refuses_every_beginning_of_a_page() {
     for length in 0..OPUS_HEAD_PAGE.len() {
-        let reading = Reading::by_library(&OPUS_HEAD_PAGE[..length]);
+        let reading = read_page(&OPUS_HEAD_PAGE[..length]);
         assert_eq!(reading, Reading::refused(NOT_A_PAGE), "{length} bytes");
     }
 }
@@ -130,8 +131,7 @@ fn reading_refuses_a_page_with_any_one_bit_flipped() {
             0..=4 | 26..=29 => NOT_A_PAGE,
             _ => WRONG_CHECKSUM,
         };
-        let reading = Reading::by_library(&page);
-        assert_eq!(reading, Reading::refused(number), "bit {bit}");
+        assert_eq!(read_page(&page), Reading::refused(number), "bit {bit}");
     }
 }
 
@@ -184,7 +184,7 @@ fn reading_gives_the_number_and_the_fields_that_the_rules_say() {
         assert!(damage.answers.contains(&answer), "{answer}, {case}");
         tally.add(answer);
     }
-    tally.finish("reading", &[NOT_A_PAGE, WRONG_CHECKSUM]);
+    tally.finish("reading", LEAST_CASES, &[NOT_A_PAGE, WRONG_CHECKSUM]);
 }
 
 #[test]
@@ -215,7 +215,7 @@ fn writing_gives_the_number_and_the_bytes_that_the_rules_say() {
         );
         tally.add(answer);
     }
-    tally.finish("writing", &[NO_ROOM, ILLEGAL_PAGE]);
+    tally.finish("writing", LEAST_CASES, &[NO_ROOM, ILLEGAL_PAGE]);
 }
 
 #[test]

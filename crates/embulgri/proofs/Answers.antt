@@ -1,5 +1,5 @@
 -- The answers to C, by what the library tells. Assumes nothing.
-use mathlib.Core.Path.{_≡_, refl, sym, ap, _∙_}
+use mathlib.Core.Path.{_≡_, refl}
 use mathlib.Core.Bool.{Bool, true, false, not}
 use mathlib.Core.List.{List, [], _∷_}
 use mathlib.Core.Option.{some}
@@ -8,7 +8,6 @@ use borrow.Author.Tests.{lt-ltb}
 use lib.Dec.{ltb, eqb}
 use lib.ListN.{length}
 use Rattle.octets.specs.Octets.{Bytes, total}
-use Rattle.refusal.specs.declared.Refusal.{Refusal}
 use Rattle.refusal.specs.declared.Refusal.the-variants.{UnfitFields}
 use Rattle.refusal.specs.Checks.{_when_, firstOf}
 use Rattle.refusal.specs.Told.{gives, refuses}
@@ -16,8 +15,9 @@ use Rattle.ogg_crc.specs.Crc.{pageCrc}
 use Rattle.ogg_page.specs.declared.PageHeader.{PageHeader}
 use Rattle.ogg_page.specs.Page.{lacingOf, bodyOf}
 use Rattle.ogg_page.specs.Reading.{readPage}
-use Rattle.ogg_page.specs.Writing.{pageSize, writeChecks, writeTold, writeOut}
-use Rattle.embulgri.specs.Answers.{PageIn, PageOut}
+use Rattle.ogg_page.specs.Writing.{writeChecks, writeTold, writeOut}
+use Rattle.opus_packet.specs.Streams.{readPacket}
+use Rattle.embulgri.specs.Answers.{PageIn, PageOut, PacketIn}
 
 module _ (p : Bytes) (old : List ℕ) where
   pub page-read : (h : PageHeader) (l b : Bytes) → readPage pageCrc p ≡ gives h → l ≡ lacingOf p → b ≡ bodyOf p
@@ -47,3 +47,10 @@ module _ (h : PageHeader) (l b out : Bytes) (old : ℕ) where
   pub flags-refused : 7 < h .flags → PageOut h l b 23 out out old old
   unfolding writeTold writeOut
   flags-refused f = write-refused 23 out (rw (flags-decide f)) (rw (flags-decide f))
+
+module _ (p : Bytes) (streams old : ℕ) where
+  pub packet-read : (d : ℕ) → readPacket p streams ≡ gives d → PacketIn p streams 0 old d
+  packet-read d e = record { answer = rw e; length = rw e }
+
+  pub packet-refused : (n : ℕ) → readPacket p streams ≡ refuses n → PacketIn p streams n old old
+  packet-refused n e = record { answer = rw e; length = rw e }

@@ -11,6 +11,7 @@ use Rattle.ogg_page.specs.declared.PageHeader.{PageHeader}
 use Rattle.ogg_page.specs.Page.{lacingOf, bodyOf}
 use Rattle.ogg_page.specs.Reading.{readPage}
 use Rattle.ogg_page.specs.Writing.{writeTold, writeOut}
+use Rattle.opus_packet.specs.Streams.{readPacket}
 
 abbrev pub numberIn : {A : Type 0} → Told A → ℕ
 numberIn (gives a) = 0
@@ -37,3 +38,8 @@ pub record PageOut (h : PageHeader) (l b : Bytes) (number : ℕ) (out end : Byte
   pub answer : number ≡ numberIn (writeTold h l b out)
   pub output : end ≡ writeOut h l b out
   pub written : count ≡ stored (writeTold h l b out) old
+
+-- reading a packet of so many streams: the returned number, and the samples from `old` to `samples`
+pub record PacketIn (p : Bytes) (streams number old samples : ℕ) : Type 0 where
+  pub answer : number ≡ numberIn (readPacket p streams)
+  pub length : samples ≡ stored (readPacket p streams) old

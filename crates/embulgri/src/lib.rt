@@ -1,10 +1,11 @@
 // The library for programs in C, Rust and Python: numbers and slices only. include/embulgri.h declares these functions.
 ghost use mathlib.Core.Path.{_≡_};
 ghost use Rattle.ogg_crc.specs.Crc.{crc};
-ghost use Rattle.embulgri.specs.Answers.{PageIn, PageOut};
+ghost use Rattle.embulgri.specs.Answers.{PageIn, PageOut, PacketIn};
 use ogg_page::PageHeader;
 use ogg_page::PageRead;
 use ogg_page::PageWritten;
+use opus_packet::PacketRead;
 use refusal::Refusal;
 
 #[no_mangle]
@@ -67,5 +68,20 @@ pub extern "C" fn embulgri_page_write(
             0
         }
         PageWritten::Refused(why) => refusal::number(why) as u32,
+    }
+}
+
+// Into `samples`: the length of an audio packet of so many streams, at 48 kHz.
+#[no_mangle]
+pub extern "C" fn embulgri_packet_read(packet: &[u8], streams: u64, samples: &mut u64) -> u32
+    ensures { λ r. ⌜ PacketIn (now (packet .entry)) streams r (now (samples .entry)) (now (samples .exit)) ⌝ }
+{
+    let read = opus_packet::read_packet(packet, streams);
+    match read {
+        PacketRead::Samples(n) => {
+            *samples = n as u64;
+            0
+        }
+        PacketRead::Refused(why) => refusal::number(why) as u32,
     }
 }

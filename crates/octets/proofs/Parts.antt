@@ -1,6 +1,6 @@
 -- Parts of a list of bytes: their ends cut to the list's, and their bytes. Assumes nothing.
 use mathlib.Core.Path.{_≡_, ap}
-use mathlib.Core.List.{List, [], _∷_}
+use mathlib.Core.List.{[], _∷_}
 use Prim.Native.Nat.{ℕ, zero, suc, _+_, _<_, min}
 use native.Mathlib.Nat.{zero-min, min-zero, suc-min-suc}
 use lib.Dec.{lit<}

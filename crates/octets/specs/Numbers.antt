@@ -1,6 +1,6 @@
 -- Numbers as bytes, the least significant byte first (RFC 3533, 6; RFC 7845, 5). Assumes nothing.
 use Prim.Native.Nat.{ℕ, zero, suc, _+_, _*_, _/_, _%_}
-use mathlib.Core.List.{List, [], _∷_}
+use mathlib.Core.List.{[], _∷_}
 use lib.ListN.{take, drop}
 use Rattle.octets.specs.Octets.{Bytes}
 

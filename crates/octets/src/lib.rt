@@ -1,8 +1,8 @@
 // Bytes in lent buffers: numbers in little-endian order, and copies. Every function is total: what is read past the end
 // of a buffer is zero, and what does not fit into one is not written.
 ghost use mathlib.Core.Path.{_≡_};
-ghost use Prim.Native.Nat.{ℕ, _+_, _≤_, _<_, _^_, min};
-ghost use lib.ListN.{length, getD};
+ghost use Prim.Native.Nat.{_+_, _≤_, _<_, _^_, min};
+ghost use lib.ListN.{getD};
 ghost use Rattle.octets.specs.Octets.{copied};
 ghost use Rattle.octets.specs.Numbers.{number, octets};
 

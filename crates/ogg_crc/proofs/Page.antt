@@ -1,18 +1,18 @@
 -- A page's checksum by its three parts: before the field, the field as zeros, and after it. Assumes nothing.
 use mathlib.Core.Path.{_≡_, sym, ap, _∙_}
-use mathlib.Core.List.{List, [], _∷_, _++_, append-assoc}
-use Prim.Native.Nat.{ℕ, zero, suc, _+_, _-_, _<_, min}
-use native.Mathlib.Nat.{zero-min, min-zero, suc-min-suc}
+use mathlib.Core.List.{_++_, append-assoc}
+use Prim.Native.Nat.{ℕ, zero, suc, _-_, _<_, min}
 use native.Mathlib.Omega.{arith}
 use lib.Dec.{lit<}
 use lib.ListN.{length, take, drop, getD, replicate, length-append, length-take, length-drop}
 use lib.Seq.{take-all, take-at, drop-at}
 use Rattle.octets.specs.Octets.{Bytes}
+use Rattle.octets.proofs.Parts.{take-min, drop-min, octets-take, octets-drop}
 use Rattle.ogg_crc.specs.Crc.{crc, blank, pageCrc}
 use Rattle.ogg_crc.specs.Sliced.{sliced, pageSliced}
 use Rattle.ogg_crc.specs.Statements.{PageCrcFits, BlankSame, PageCrcSame, PageSlicedRight}
 use Rattle.ogg_crc.proofs.Register.{crc-append, crc-lt, crc-fits}
-use Rattle.ogg_crc.proofs.Slice.{octets-take, octets-drop, sliced-right}
+use Rattle.ogg_crc.proofs.Slice.{sliced-right}
 
 pub page-crc-fits : PageCrcFits
 unfolding pageCrc
@@ -40,31 +40,20 @@ zeros-below (suc n) (suc i) = zeros-below n i
 
 pub page-sliced-right : PageSlicedRight
 unfolding pageSliced pageCrc blank
-page-sliced-right t right p h =
+page-sliced-right e right p h =
     let a : Bytes = take 22 p in
     let z : Bytes = take (length p - 22) (replicate 4 0) in
-    let run = sliced-right t right in
+    let run = sliced-right e right in
     let one = run a (octets-take 22 p h) 0 (lit< tt) in
     let two = run z (octets-take (length p - 22) (replicate 4 0) (record { below = zeros-below 4 })) (crc 0 a) (crc-fits a) in
     let three = run (drop 26 p) (octets-drop 26 p h) (crc (crc 0 a) z) (crc-lt z (crc 0 a) (crc-fits a)) in
     rw (one, two, three) (sym (rw (crc-append, crc-append)))
 
--- an end past the list's is the list's
-take-min : (n : ℕ) (s : Bytes) → take (min n (length s)) s ≡ take n s
-take-min zero s = rw zero-min
-take-min (suc n) [] = rw min-zero
-take-min (suc n) (b ∷ s) = rw suc-min-suc (ap (λ (l : Bytes). b ∷ l) (take-min n s))
-
-drop-min : (n : ℕ) (s : Bytes) → drop (min n (length s)) s ≡ drop n s
-drop-min zero s = rw zero-min
-drop-min (suc n) [] = rw min-zero
-drop-min (suc n) (b ∷ s) = rw suc-min-suc (drop-min n s)
-
 -- the field is from a to b; x, y and z are the register after each part
-pub parts : (t p : List ℕ) (a b x y z : ℕ) → a ≡ min 22 (length p) → b ≡ min 26 (length p) → x ≡ sliced t 0 (take a p)
-    → y ≡ sliced t x (take (b - a) (replicate 4 0)) → z ≡ sliced t y (take (length p - b) (drop b p)) → z ≡ pageSliced t p
+pub parts : (e : ℕ → ℕ → ℕ) (p : Bytes) {a b x y z : ℕ} → a ≡ min 22 (length p) → b ≡ min 26 (length p) → x ≡ sliced e 0 (take a p)
+    → y ≡ sliced e x (take (b - a) (replicate 4 0)) → z ≡ sliced e y (take (length p - b) (drop b p)) → z ≡ pageSliced e p
 unfolding pageSliced
-parts t p a b x y z ha hb hx hy hz =
+parts e p {a} {b} ha hb hx hy hz =
     let zeros : Bytes = replicate 4 0 in
     let n : ℕ = length p - 22 in
     let field : b - a ≡ min n 4 = omega arith in

@@ -8,6 +8,7 @@ use lib.Dec.{lit<}
 use lib.Bits.{bitXor, xor-comm, xor-lt}
 use lib.ListN.{length}
 use Rattle.octets.specs.Octets.{Bytes, Octets}
+use Rattle.octets.proofs.Parts.{octets-tail}
 use Rattle.ogg_crc.specs.Crc.{bit, bits, byte, crc}
 use Rattle.ogg_crc.specs.Statements.{CrcAppend, CrcFits}
 use Rattle.ogg_crc.proofs.Xor.{xor-assoc}
@@ -36,9 +37,6 @@ crc-lt (b ∷ s) r h = crc-lt s (byte r b) (byte-lt r b)
 pub crc-fits : CrcFits
 crc-fits s = crc-lt s 0 (lit< tt)
 
-pub rest : {b : ℕ} {s : Bytes} → Octets (b ∷ s) → Octets s
-rest h = record { below = λ i. h .below (suc i) }
-
 -- what is xored into the register is moved by a byte as if the byte were zero
 byte-xor : (u v b : ℕ) → u < 2 ^ 32 → v < 2 ^ 32 → b < 256 → byte (bitXor u v) b ≡ bitXor (byte u b) (bits 8 v)
 unfolding byte
@@ -54,5 +52,5 @@ unfolding crc bits
 crc-xor [] h u v hu hv = refl
 crc-xor (b ∷ s) h u v hu hv =
     ap (λ (r : ℕ). crc r s) (byte-xor u v b hu hv (h .below 0))
-    ∙ crc-xor s (rest h) (byte u b) (bits 8 v) (byte-lt u b) (bits-lt 8 v hv)
+    ∙ crc-xor s (octets-tail h) (byte u b) (bits 8 v) (byte-lt u b) (bits-lt 8 v hv)
     ∙ ap (bitXor (crc (byte u b) s)) (bits-byte (length s) v)

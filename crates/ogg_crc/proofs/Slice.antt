@@ -1,37 +1,24 @@
--- Slicing with the right tables gives the checksum: what a byte puts into the register some bytes later is one entry, and
+-- Slicing with the right entries gives the checksum: what a byte puts into the register some bytes later is one entry, and
 -- the rest of the register goes its own way. Assumes nothing.
 use mathlib.Core.Path.{_≡_, refl, sym, ap, ap₂, _∙_}
 use mathlib.Core.Bool.{Bool, true, false}
-use mathlib.Core.List.{List, [], _∷_}
-use Prim.Native.Nat.{ℕ, zero, suc, _+_, _*_, _/_, _%_, _^_, _≤_, _<_}
+use mathlib.Core.List.{[], _∷_}
+use Prim.Native.Nat.{ℕ, zero, suc, _*_, _/_, _%_, _^_, _≤_, _<_}
 use native.Mathlib.Nat.{mod-lt}
 use native.Mathlib.Omega.{arith}
-use lib.Dec.{leb, lit<}
+use lib.Dec.{leb}
 use lib.Pow.{pow-pos}
 use lib.Bits.{bitXor, xor-lt}
-use lib.ListN.{length, take, drop, getD, length-take, length-drop, take-append-drop}
-use lib.Seq.{getD-drop}
+use lib.ListN.{length, take, drop, length-take, length-drop, take-append-drop}
 use Rattle.octets.specs.Octets.{Bytes, Octets}
 use Rattle.octets.specs.Pick.{pick}
+use Rattle.octets.proofs.Parts.{octets-tail, octets-drop, octets-take}
 use Rattle.ogg_crc.specs.Crc.{bits, crc}
 use Rattle.ogg_crc.specs.Sliced.{blockOf, size, blocks, sliced}
 use Rattle.ogg_crc.specs.Statements.{SlicedRight}
 use Rattle.ogg_crc.specs.Table.{Right}
 use Rattle.ogg_crc.proofs.Linear.{bits-lt, byte-step}
-use Rattle.ogg_crc.proofs.Register.{bits-byte, crc-append, crc-lt, crc-xor, rest}
-
--- a part of a list of bytes is one
-pub octets-drop : (n : ℕ) (s : Bytes) → Octets s → Octets (drop n s)
-octets-drop n s h = record { below = λ i. rw getD-drop (h .below (n + i)) }
-
-take-below : (n : ℕ) (s : Bytes) → Octets s → (i : ℕ) → getD (take n s) i 0 < 256
-take-below zero s h i = lit< tt
-take-below (suc n) [] h i = lit< tt
-take-below (suc n) (b ∷ s) h zero = h .below 0
-take-below (suc n) (b ∷ s) h (suc i) = take-below n s (rest h) i
-
-pub octets-take : (n : ℕ) (s : Bytes) → Octets s → Octets (take n s)
-octets-take n s h = record { below = take-below n s h }
+use Rattle.ogg_crc.proofs.Register.{bits-byte, crc-append, crc-lt, crc-xor}
 
 -- the byte b, with the bytes of s to follow
 first : (b : ℕ) (s : Bytes) → Octets (b ∷ s) → (w : ℕ) → w < 2 ^ 32
@@ -42,7 +29,7 @@ first b s h w hw =
     let hx : x < 2 ^ 8 = xor-lt 8 (w / 2 ^ 24) b (omega arith) (h .below 0) in
     let low : ℕ = w * 2 ^ 8 % 2 ^ 32 in
     ap (λ (r : ℕ). crc r s) (byte-step w b hw (h .below 0))
-    ∙ crc-xor s (rest h) low (bits 8 (x * 2 ^ 24)) (mod-lt (w * 2 ^ 8) (pow-pos 32)) (bits-lt 8 (x * 2 ^ 24) (omega arith))
+    ∙ crc-xor s (octets-tail h) low (bits 8 (x * 2 ^ 24)) (mod-lt (w * 2 ^ 8) (pow-pos 32)) (bits-lt 8 (x * 2 ^ 24) (omega arith))
     ∙ ap (bitXor (crc low s)) (bits-byte (length s) (x * 2 ^ 24))
 
 -- a block's size is one of three
@@ -63,28 +50,28 @@ size-le n = sizes (λ (m : ℕ). m ≤ 16) (omega arith) (omega arith) (omega ar
 pub shorter : (n : ℕ) (s : Bytes) → length s ≤ suc n → length (drop (size (length s)) s) ≤ n
 shorter n s h = simp length-drop (omega (arith, size-pos (length s)))
 
-module _ (t : List ℕ) (right : Right t) where
-  block-right : (s : Bytes) → Octets s → length s ≤ 16 → (x : ℕ) → x < 2 ^ 32 → blockOf t x s ≡ crc x s
+module _ (e : ℕ → ℕ → ℕ) (right : Right e) where
+  block-right : (s : Bytes) → Octets s → length s ≤ 16 → (x : ℕ) → x < 2 ^ 32 → blockOf e x s ≡ crc x s
   unfolding blockOf crc
   block-right [] h l x hx = refl
   block-right (b ∷ s) h l x hx =
       let i : ℕ = bitXor (x / 2 ^ 24) b in
       let hi : i < 2 ^ 8 = xor-lt 8 (x / 2 ^ 24) b (omega arith) (h .below 0) in
-      ap₂ bitXor (block-right s (rest h) (omega arith) (x * 2 ^ 8 % 2 ^ 32) (mod-lt (x * 2 ^ 8) (pow-pos 32)))
+      ap₂ bitXor (block-right s (octets-tail h) (omega arith) (x * 2 ^ 8 % 2 ^ 32) (mod-lt (x * 2 ^ 8) (pow-pos 32)))
       (right .entry (length s) i (omega arith) hi)
       ∙ sym (first b s h x hx)
 
-  blocks-right : (n : ℕ) (s : Bytes) → Octets s → length s ≤ n → (r : ℕ) → r < 2 ^ 32 → blocks t n r s ≡ crc r s
+  blocks-right : (n : ℕ) (s : Bytes) → Octets s → length s ≤ n → (r : ℕ) → r < 2 ^ 32 → blocks e n r s ≡ crc r s
   unfolding blocks crc
   blocks-right zero [] h l r hr = refl
   blocks-right zero (b ∷ s) h l r hr = absurd (omega arith)
   blocks-right (suc n) s h l r hr =
       let m : ℕ = size (length s) in
       let one = block-right (take m s) (octets-take m s h) (simp length-take (omega (arith, size-le (length s)))) r hr in
-      let wide : blockOf t r (take m s) < 2 ^ 32 = rw one (crc-lt (take m s) r hr) in
-      blocks-right n (drop m s) (octets-drop m s h) (shorter n s l) (blockOf t r (take m s)) wide
+      let wide : blockOf e r (take m s) < 2 ^ 32 = rw one (crc-lt (take m s) r hr) in
+      blocks-right n (drop m s) (octets-drop m s h) (shorter n s l) (blockOf e r (take m s)) wide
       ∙ ap (λ (y : ℕ). crc y (drop m s)) one ∙ sym (crc-append r (take m s) (drop m s)) ∙ ap (crc r) (take-append-drop m s)
 
 pub sliced-right : SlicedRight
 unfolding sliced
-sliced-right t right s h r hr = blocks-right t right (length s) s h (omega arith) r hr
+sliced-right e right s h r hr = blocks-right e right (length s) s h (omega arith) r hr

@@ -1,11 +1,11 @@
--- What sixteen tables of 256 entries make of bytes, whatever the entries are (slicing by sixteen). Entry j * 256 + b is
--- meant for a byte b in the register's top that j bytes follow; with the right entries (Table.antt) the value is the
--- checksum (Statements.antt). Assumes nothing.
-use Prim.Native.Nat.{ℕ, zero, suc, _+_, _*_, _-_, _/_, _%_, _^_}
-use mathlib.Core.List.{List, [], _∷_}
+-- What slicing by sixteen makes of bytes, whatever the entries are: e j b is what a byte b in the register's top, followed
+-- by j bytes of its block, adds to the register. With the right entries (Table.antt) the value is the checksum
+-- (Statements.antt). Assumes nothing.
+use Prim.Native.Nat.{ℕ, zero, suc, _*_, _-_, _/_, _%_, _^_}
+use mathlib.Core.List.{[], _∷_}
 use lib.Bits.{bitXor}
 use lib.Dec.{leb}
-use lib.ListN.{length, take, drop, getD, replicate}
+use lib.ListN.{length, take, drop, replicate}
 use Rattle.octets.specs.Octets.{Bytes}
 use Rattle.octets.specs.Pick.{pick}
 
@@ -16,23 +16,23 @@ moved x (suc k) = moved x k * 2 ^ 8 % 2 ^ 32
 
 -- the register x after a block: its first byte meets the register's top, which gives the entry for the bytes that follow;
 -- the rest of the register goes on
-unfoldable pub blockOf : List ℕ → ℕ → Bytes → ℕ
-blockOf t x [] = x
-blockOf t x (b ∷ s) = bitXor (blockOf t (x * 2 ^ 8 % 2 ^ 32) s) (getD t (length s * 256 + bitXor (x / 2 ^ 24) b) 0)
+unfoldable pub blockOf : (ℕ → ℕ → ℕ) → ℕ → Bytes → ℕ
+blockOf e x [] = x
+blockOf e x (b ∷ s) = bitXor (blockOf e (x * 2 ^ 8 % 2 ^ 32) s) (e (length s) (bitXor (x / 2 ^ 24) b))
 
 -- the size of the next block where n bytes are left
 unfoldable pub size : ℕ → ℕ
 size n = pick (leb 16 n) 16 (pick (leb 4 n) 4 1)
 
 -- the register r after n blocks; where no byte is left a block is empty
-unfoldable pub blocks : List ℕ → ℕ → ℕ → Bytes → ℕ
-blocks t zero r s = r
-blocks t (suc n) r s = blocks t n (blockOf t r (take (size (length s)) s)) (drop (size (length s)) s)
+unfoldable pub blocks : (ℕ → ℕ → ℕ) → ℕ → ℕ → Bytes → ℕ
+blocks e zero r s = r
+blocks e (suc n) r s = blocks e n (blockOf e r (take (size (length s)) s)) (drop (size (length s)) s)
 
 -- the register r after all bytes of s: a block takes one at least, so there are no more blocks than bytes
-unfoldable pub sliced : List ℕ → ℕ → Bytes → ℕ
-sliced t r s = blocks t (length s) r s
+unfoldable pub sliced : (ℕ → ℕ → ℕ) → ℕ → Bytes → ℕ
+sliced e r s = blocks e (length s) r s
 
 -- the same of a page in three runs: before the checksum field, zeros for the field, after it
-unfoldable pub pageSliced : List ℕ → Bytes → ℕ
-pageSliced t p = sliced t (sliced t (sliced t 0 (take 22 p)) (take (length p - 22) (replicate 4 0))) (drop 26 p)
+unfoldable pub pageSliced : (ℕ → ℕ → ℕ) → Bytes → ℕ
+pageSliced e p = sliced e (sliced e (sliced e 0 (take 22 p)) (take (length p - 22) (replicate 4 0))) (drop 26 p)

@@ -1,7 +1,7 @@
 -- Laws of the checksum for other crates to cite; each is proved in the module of proofs/ that its comment names.
 -- Assumes nothing.
 use mathlib.Core.Path.{_≡_}
-use mathlib.Core.List.{List, _++_}
+use mathlib.Core.List.{_++_}
 use Prim.Native.Nat.{ℕ, _≤_, _<_, _^_}
 use lib.ListN.{length, take, drop}
 use Rattle.octets.specs.Octets.{Bytes, Octets}
@@ -29,10 +29,10 @@ BlankSame = (p f : Bytes) → 26 ≤ length p → length f ≡ 4 → blank (take
 abbrev pub PageCrcSame : Type 0
 PageCrcSame = (p f : Bytes) → 26 ≤ length p → length f ≡ 4 → pageCrc (take 22 p ++ f ++ drop 26 p) ≡ pageCrc p
 
--- with the right tables slicing gives the checksum (Slice)
+-- with the right entries slicing gives the checksum (Slice)
 abbrev pub SlicedRight : Type 0
-SlicedRight = (t : List ℕ) → Right t → (s : Bytes) → Octets s → (r : ℕ) → r < 2 ^ 32 → sliced t r s ≡ crc r s
+SlicedRight = (e : ℕ → ℕ → ℕ) → Right e → (s : Bytes) → Octets s → (r : ℕ) → r < 2 ^ 32 → sliced e r s ≡ crc r s
 
 -- and a page's checksum (Page)
 abbrev pub PageSlicedRight : Type 0
-PageSlicedRight = (t : List ℕ) → Right t → (p : Bytes) → Octets p → pageSliced t p ≡ pageCrc p
+PageSlicedRight = (e : ℕ → ℕ → ℕ) → Right e → (p : Bytes) → Octets p → pageSliced e p ≡ pageCrc p

@@ -1,13 +1,11 @@
 -- The lacing values and the body as parts of the bytes that are there. Assumes nothing.
-use mathlib.Core.Path.{_≡_, sym, ap, _∙_}
-use mathlib.Core.List.{[]}
-use Prim.Native.Nat.{ℕ, _+_, _-_, _≤_, _<_, min}
+use mathlib.Core.Path.{_≡_, ap, _∙_}
+use Prim.Native.Nat.{ℕ, _+_, _-_, min}
 use native.Mathlib.Omega.{arith}
-use lib.ListN.{length, take, drop, length-drop, drop-of-length-le, getD}
-use lib.Seq.{take-all, take-nil}
+use lib.ListN.{length, take, drop, length-drop}
+use lib.Seq.{take-all}
 use Rattle.octets.specs.Octets.{Bytes}
 use Rattle.octets.proofs.Parts.{take-min, drop-min}
-use Rattle.ogg_page.specs.Page.{countOf, lacingOf, bodyOf}
 
 -- a part from place a up to place a + n, each cut to the end of the bytes
 pub part-cut : (s : Bytes) (a n : ℕ) → take (min (a + n) (length s) - min a (length s)) (drop (min a (length s)) s) ≡ take n (drop a s)

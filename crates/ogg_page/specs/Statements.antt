@@ -1,5 +1,5 @@
 -- What is proved of pages, beside the contracts. Assumes nothing.
-use Prim.Native.Nat.{ℕ, _+_, _^_, _≤_, _<_}
+use Prim.Native.Nat.{ℕ, _^_, _≤_, _<_}
 use mathlib.Core.Path.{_≡_}
 use mathlib.Core.List.{List, [], _∷_, _++_, map}
 use lib.ListN.{length, take}
@@ -7,7 +7,7 @@ use Rattle.octets.specs.Octets.{Bytes, Octets, total, copied}
 use Rattle.refusal.specs.Told.{gives}
 use Rattle.ogg_crc.specs.Crc.{pageCrc}
 use Rattle.ogg_crc.specs.Sliced.{pageSliced}
-use Rattle.ogg_crc.specs.Table.{Right}
+use Rattle.ogg_crc.specs.Table.{Right, entryIn}
 use Rattle.ogg_page.specs.declared.PageHeader.{PageHeader}
 use Rattle.ogg_page.specs.Page.{lacingOf, bodyOf}
 use Rattle.ogg_page.specs.Lacing.{ended, unfinished, cut}
@@ -55,4 +55,4 @@ PiecesCover = (l b : Bytes) → total l ≡ length b → Covers l b
 
 -- reading by lent tables is reading, where the tables are right
 abbrev pub LentReads : Type 0
-LentReads = (t : List ℕ) → Right t → (p : Bytes) → Octets p → readPage (pageSliced t) p ≡ readPage pageCrc p
+LentReads = (t : List ℕ) → Right (entryIn t) → (p : Bytes) → Octets p → readPage (pageSliced (entryIn t)) p ≡ readPage pageCrc p

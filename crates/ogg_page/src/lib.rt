@@ -1,10 +1,10 @@
 // Ogg pages (RFC 3533): reading one, where one would end, its lacing values, writing one.
 ghost use mathlib.Core.Path.{_≡_};
-ghost use mathlib.Core.Bool.{Bool};
-ghost use Prim.Native.Nat.{ℕ, _+_, _≤_, _<_, _^_};
+ghost use Prim.Native.Nat.{_+_, _≤_, _<_, _^_};
 ghost use lib.ListN.{length};
 ghost use Rattle.octets.specs.Octets.{total, copied};
 ghost use Rattle.ogg_crc.specs.Crc.{pageCrc};
+ghost use Rattle.ogg_crc.specs.Table.{entryIn};
 ghost use Rattle.ogg_crc.specs.Sliced.{pageSliced};
 ghost use Rattle.ogg_page.specs.Page.{hasCapture, headerOf, lacingOf, bodyOf, sizeOf};
 ghost use Rattle.ogg_page.specs.Extent.{extentIn, pageExtent};
@@ -149,7 +149,7 @@ fn header_of(page: &[u8]) -> PageHeader
 // The same as `read_page`, by lent tables: those of `ogg_crc::table::tables` give the checksum, and others what they give.
 // Whoever reads many small pages makes the tables once.
 pub fn read_page_with(tables: &[u32; 4096], page: &[u8]) -> PageRead
-    ensures { λ r. ⌜ toldRead r ≡ readPage (pageSliced (now (tables .entry))) (now (page .entry)) ⌝ }
+    ensures { λ r. ⌜ toldRead r ≡ readPage (pageSliced (entryIn (now (tables .entry)))) (now (page .entry)) ⌝ }
 {
     if !is_one_page(page) {
         return PageRead::Refused(Refusal::NotOnePage);

@@ -7,7 +7,7 @@ use native.Mathlib.Numerals.{add-one}
 use native.Mathlib.Omega.{arith}
 use denote.Ref.{now}
 use borrow.Author.Needs.{needs}
-use lib.ListN.{length, getD, take, drop, drop-of-length-le}
+use lib.ListN.{getD, take, drop, drop-of-length-le}
 use lib.Seq.{take-nil}
 use Rattle.octets.specs.Numbers.{value, number}
 use Rattle.octets.proofs.Numbers.{value-more}

@@ -1,103 +1,26 @@
--- `ogg_crc::update` meets its contract. The loop's invariant: the bytes that are left take the register x to the answer.
--- Assumes nothing.
-use mathlib.Core.Path.{_≡_, refl, sym, _∙_}
-use mathlib.Core.List.{List}
-use Prim.Native.Nat.{ℕ, _+_, _-_, _≤_, _<_}
+-- `ogg_crc::update` meets its contract, a block a turn. Assumes nothing.
+use Prim.Native.Nat.{_-_}
 use native.Mathlib.Omega.{arith}
-use borrow.Author.Tests.{le-leb, lt-leb}
-use lib.ListN.{length, take, drop, drop-of-length-le}
-use denote.Ref.{now}
-use Rattle.octets.specs.Octets.{Bytes}
-use Rattle.ogg_crc.specs.Sliced.{blockOf, size, blocks, sliced}
-use Rattle.ogg_crc.proofs.Turns.{one-block}
+use lib.ListN.{length}
+use Rattle.ogg_crc.specs.Table.{entryIn}
+use Rattle.ogg_crc.proofs.Turns.{Left, left-starts, left-16, left-4, left-1, left-ends}
 use Rattle.ogg_crc.proofs.update.Statement.{statement}
 use Rattle.ogg_crc.proofs.update.Tie as tie
 
 abbrev Inv-loop : tie.InvT-loop
-Inv-loop tables r s x₀ i₀ x i = (sliced tables x (drop i s) ≡ sliced tables r s) × (i ≤ length s)
+Inv-loop tables r s x₀ i₀ x i = Left (entryIn tables) r s x i
 
 abbrev μ-loop : tie.MeasureT-loop
 μ-loop tables r s x₀ i₀ x i = length s - i
 
-loop-holds : tie.Need-loop-holds Inv-loop μ-loop
-loop-holds c = (refl, omega arith)
-
-sub-left : tie.Need-sub-left Inv-loop μ-loop
-sub-left c = omega arith
-
--- the same after a block of m bytes that makes the register y
-module _ (a : tie.At-loop Inv-loop μ-loop) where
-  abbrev s : Bytes
-  s = now (a .before .before .args .s)
-
-  abbrev t : List ℕ
-  t = now (a .before .before .args .tables)
-
-  abbrev i : ℕ
-  i = a .loop .i
-
-  further : (m y : ℕ) → i < length s → size (length s - i) ≡ m → i + m ≤ length s → y ≡ blockOf t (a .loop .x) (take m (drop i s))
-      → (sliced t y (drop (i + m) s) ≡ sliced t (a .before .before .args .r) s) × (i + m ≤ length s)
-  further m y h e l made = (rw made (sym (one-block t s i m (a .loop .x) h e) ∙ a .loop .inv .0), l)
-
-block-requires : tie.Need-block-requires Inv-loop μ-loop
-block-requires c κs = (omega arith, omega arith)
-
-add-i : tie.Need-add-i Inv-loop μ-loop
-add-i c = omega arith
-
-loop-less : tie.Need-loop-less Inv-loop μ-loop
-loop-less c = omega arith
-
-loop-again : tie.Need-loop-again Inv-loop μ-loop
-unfolding size
-loop-again c =
-    let a = c .before .before .before in
-    let e = le-leb 16 (length (s a) - i a) (omega arith) in
-    further a 16 (c .block .result) (omega arith) (rw e) (omega arith) (c .block .ensures)
-
-block-requires-2 : tie.Need-block-requires-2 Inv-loop μ-loop
-block-requires-2 c κs = (omega arith, omega arith)
-
-add-i-2 : tie.Need-add-i-2 Inv-loop μ-loop
-add-i-2 c = omega arith
-
-loop-less-2 : tie.Need-loop-less-2 Inv-loop μ-loop
-loop-less-2 c = omega arith
-
-loop-again-2 : tie.Need-loop-again-2 Inv-loop μ-loop
-unfolding size
-loop-again-2 c =
-    let a = c .before .before .before .before in
-    let e = lt-leb 16 (length (s a) - i a) (omega arith) in
-    let f = le-leb 4 (length (s a) - i a) (omega arith) in
-    further a 4 (c .block2 .result) (omega arith) (rw (e, f)) (omega arith) (c .block2 .ensures)
-
-block-requires-3 : tie.Need-block-requires-3 Inv-loop μ-loop
-block-requires-3 c κs = (omega arith, omega arith)
-
-add-i-3 : tie.Need-add-i-3 Inv-loop μ-loop
-add-i-3 c = omega arith
-
-loop-less-3 : tie.Need-loop-less-3 Inv-loop μ-loop
-loop-less-3 c = omega arith
-
-loop-again-3 : tie.Need-loop-again-3 Inv-loop μ-loop
-unfolding size
-loop-again-3 c =
-    let a = c .before .before .before .before in
-    let e = lt-leb 16 (length (s a) - i a) (omega arith) in
-    let f = lt-leb 4 (length (s a) - i a) (omega arith) in
-    further a 1 (c .block3 .result) (omega arith) (rw (e, f)) (omega arith) (c .block3 .ensures)
-
-returns : tie.Need-returns Inv-loop μ-loop
-unfolding sliced blocks
-returns c =
-    let a = c .before in
-    rw (drop-of-length-le (s a) {i = i a} (omega arith)) at (a .loop .inv .0)
-
 pub update-spec : {M : Type 1} → statement M
 update-spec =
     tie.close
-    (tie.spec Inv-loop μ-loop loop-holds sub-left block-requires add-i loop-less loop-again block-requires-2 add-i-2 loop-less-2
-    loop-again-2 block-requires-3 add-i-3 loop-less-3 loop-again-3 returns)
+    (tie.spec Inv-loop μ-loop (λ c. left-starts) (λ c. omega arith)
+    (λ c κs. (omega arith, omega arith)) (λ c. omega arith) (λ c. omega arith)
+    (λ c. left-16 (omega arith) (c .before .before .before .loop .inv) (c .block .ensures))
+    (λ c κs. (omega arith, omega arith)) (λ c. omega arith) (λ c. omega arith)
+    (λ c. left-4 (omega arith) (omega arith) (c .before .before .before .before .loop .inv) (c .block2 .ensures))
+    (λ c κs. (omega arith, omega arith)) (λ c. omega arith) (λ c. omega arith)
+    (λ c. left-1 (omega arith) (omega arith) (c .before .before .before .before .loop .inv) (c .block3 .ensures))
+    (λ c. left-ends (omega arith) (c .before .loop .inv)))

@@ -1,9 +1,7 @@
 -- `ogg_page::lacing_of` meets its contract. Assumes nothing.
-use mathlib.Core.Path.{_≡_, ap, _∙_}
-use Prim.Native.Nat.{ℕ, _+_, min}
+use mathlib.Core.Path.{_≡_, _∙_}
 use borrow.Author.Needs.{needs}
 use denote.Ref.{now}
-use lib.ListN.{length, take, drop}
 use Rattle.ogg_page.specs.Page.{lacingOf}
 use Rattle.ogg_page.proofs.Fields.{part-cut}
 use Rattle.ogg_page.proofs.lacing_of.Statement.{statement}

@@ -1,0 +1,70 @@
+-- The first byte of an Opus packet, the lengths coded in it, and the rules of RFC 6716 by their names (RFC 6716, 3.1, 3.2
+-- and 3.4; document 01, "Opus packets"). Assumes nothing.
+use Prim.Native.Nat.{ℕ, zero, suc, _+_, _*_, _/_, _%_}
+use mathlib.Core.List.{List, [], _∷_}
+use lib.Dec.{ltb, eqb}
+use Rattle.octets.specs.Pick.{pick}
+use Rattle.octets.specs.Octets.{Bytes}
+
+-- the TOC byte: the config in its top five bits, the code in its lowest two
+abbrev pub configOf : ℕ → ℕ
+configOf toc = toc / 8
+
+abbrev pub codeOf : ℕ → ℕ
+codeOf toc = toc % 4
+
+-- one of four by a remainder
+abbrev pub byFour : ℕ → ℕ → ℕ → ℕ → ℕ → ℕ
+byFour n a b c d = pick (eqb (n % 4) 0) a (pick (eqb (n % 4) 1) b (pick (eqb (n % 4) 2) c d))
+
+-- samples in a frame at 48 kHz (RFC 6716, 3.1, table 2): configs below 12, below 16, and the rest
+unfoldable pub configSamples : ℕ → ℕ
+configSamples c =
+    pick (ltb c 12) (byFour c 480 960 1920 2880)
+    (pick (ltb c 16) (pick (eqb (c % 2) 0) 480 960)
+    (byFour c 120 240 480 960))
+
+unfoldable pub frameSamples : ℕ → ℕ
+frameSamples toc = configSamples (configOf toc)
+
+-- the rules of RFC 6716, 3.4: which one a packet breaks
+pub data Rule : Type 0 where
+  R1 R2 R3 R4 R5 R6 R7 : Rule
+
+-- R2: no frame is longer than 1,275 bytes
+abbrev pub frameMax : ℕ
+frameMax = 1275
+
+-- R5: no more than 120 ms
+abbrev pub samplesMax : ℕ
+samplesMax = 5760
+
+-- a value read from the front of some bytes and what follows it, or too few bytes for it
+pub data Read (A : Type 0) : Type 0 where
+  short : Read A
+  value : A → Bytes → Read A
+
+-- one coded length (RFC 6716, 3.2.1): a byte up to 251, or a larger one and four times the next
+unfoldable pub coded : Bytes → Read ℕ
+coded [] = short
+coded (n ∷ []) = pick (ltb n 252) (value n []) short
+coded (n ∷ m ∷ s) = pick (ltb n 252) (value n (m ∷ s)) (value (n + 4 * m) s)
+
+abbrev pub withFirst : ℕ → Read (List ℕ) → Read (List ℕ)
+withFirst n short = short
+withFirst n (value ns s) = value (n ∷ ns) s
+
+abbrev pub andLater : (Bytes → Read (List ℕ)) → Read ℕ → Read (List ℕ)
+andLater later short = short
+andLater later (value n s) = withFirst n (later s)
+
+-- n coded lengths one after the other
+unfoldable pub codedTimes : ℕ → Bytes → Read (List ℕ)
+codedTimes zero s = value [] s
+codedTimes (suc n) s = andLater (codedTimes n) (coded s)
+
+-- the length of the padding (RFC 6716, 3.2.5), p being counted already: each byte of 255 stands for 254 and goes on, a
+-- smaller one ends it
+unfoldable pub paddingFrom : ℕ → Bytes → Read ℕ
+paddingFrom p [] = short
+paddingFrom p (v ∷ s) = pick (ltb v 255) (value (p + v) s) (paddingFrom (p + 254) s)

@@ -1,0 +1,6 @@
+pub mod Frames
+pub mod Packet
+pub mod Streams
+pub mod Code
+pub mod Statements
+pub mod Cases
