@@ -2,8 +2,10 @@
 // of a buffer is zero, and what does not fit into one is not written.
 ghost use mathlib.Core.Path.{_≡_};
 ghost use Prim.Native.Nat.{_+_, _≤_, _<_, _^_, min};
-ghost use lib.ListN.{getD};
-ghost use Rattle.octets.specs.Octets.{copied};
+ghost use lib.ListN.{getD, take, drop};
+ghost use mir.Syntax.{w16};
+ghost use mir.Val.{toZ, ofZ};
+ghost use Rattle.octets.specs.Octets.{begins, copied};
 ghost use Rattle.octets.specs.Numbers.{number, octets};
 
 pub fn least(a: usize, b: usize) -> usize
@@ -17,6 +19,32 @@ pub fn byte_at(s: &[u8], at: usize) -> u8
     ensures { λ r. ⌜ r ≡ getD (now (s .entry)) at 0 ⌝ }
 {
     if at < s.len() { s[at] } else { 0 }
+}
+
+// Whether the bytes begin with p.
+pub fn begins_with(s: &[u8], p: &[u8]) -> bool
+    ensures { λ r. ⌜ r ≡ begins (now (p .entry)) (now (s .entry)) ⌝ }
+{
+    if s.len() < p.len() {
+        return false;
+    }
+    let mut i = 0;
+    while i < p.len() {
+        if p[i] != s[i] {
+            return false;
+        }
+        i += 1;
+    }
+    true
+}
+
+// The n bytes from `at` on, or as many of them as are there.
+pub fn part_of(s: &[u8], at: usize, n: usize) -> &[u8]
+    ensures { λ r. ⌜ now r ≡ take n (drop at (now (s .entry))) ⌝ }
+{
+    let start = least(at, s.len());
+    let end = start + least(n, s.len() - start);
+    &s[start..end]
 }
 
 // A byte as a count or an index.
@@ -75,6 +103,28 @@ pub fn copy_at(d: &mut [u8], at: usize, s: &[u8])
         d[at + j] = s[j];
         j += 1;
     }
+}
+
+// A number of 16 bits read as signed, in two's complement.
+pub fn signed16(x: u16) -> i16
+    ensures { λ r. ⌜ r ≡ toZ w16 x ⌝ }
+{
+    if x < 32768 {
+        return x as i16;
+    }
+    let y = (65535 - x) as i16;
+    -1 - y
+}
+
+// The 16 bits of a signed number.
+pub fn unsigned16(g: i16) -> u16
+    ensures { λ r. ⌜ r ≡ ofZ w16 g ⌝ }
+{
+    if g >= 0 {
+        return g as u16;
+    }
+    let y = (-1 - g) as u16;
+    65535 - y
 }
 
 // The eight bytes of a number, lowest first.

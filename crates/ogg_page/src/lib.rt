@@ -61,9 +61,7 @@ pub fn lacing_of(page: &[u8]) -> &[u8]
     ensures { λ r. ⌜ now r ≡ lacingOf (now (page .entry)) ⌝ }
 {
     let count = octets::wide(octets::byte_at(page, 26));
-    let start = octets::least(27, page.len());
-    let end = octets::least(27 + count, page.len());
-    &page[start..end]
+    octets::part_of(page, 27, count)
 }
 
 // What follows the lacing values.
@@ -71,8 +69,7 @@ pub fn body_of(page: &[u8]) -> &[u8]
     ensures { λ r. ⌜ now r ≡ bodyOf (now (page .entry)) ⌝ }
 {
     let count = octets::wide(octets::byte_at(page, 26));
-    let start = octets::least(27 + count, page.len());
-    &page[start..]
+    octets::part_of(page, 27 + count, page.len())
 }
 
 // The sum of at most 255 values.
