@@ -43,6 +43,28 @@ uint32_t embulgri_page_write(uint64_t flags, uint64_t granule, uint32_t serial, 
  *   0   none of these; the length is stored */
 uint32_t embulgri_packet_read(const uint8_t *packet, size_t n, uint64_t streams, uint64_t *samples);
 
+/* Reads one identification header (RFC 7845, section 5.1). fields: version, channels, pre-skip, input rate, output
+ * gain (its 16 bits, two's complement, as a number from 0 to 65535), mapping family, stream count, coupled count.
+ * mapping: the index of each channel, then zeros. Family 0 has no table: its stream count is 1, its coupled count is
+ * channels - 1, and its indices are 0 and 1.
+ *   12  the signature is wrong, the version is not 1, or n is not 19 for family 0, 21 + channels for any other family
+ *   13  not 12, and the channel mapping is wrong: channels is not 1 or 2 for family 0, 1 to 8 for family 1, 1 to 255
+ *       for family 255, or the family is another; the stream count is 0, the coupled count is above it, or their sum is
+ *       above 255; or an index is neither below their sum nor 255
+ *   0   neither; the eight numbers and all 255 places of the mapping are stored */
+uint32_t embulgri_head_read(const uint8_t *packet, size_t n, uint64_t fields[8], uint8_t mapping[255]);
+
+/* Writes one identification header, 19 bytes for family 0 and 21 + channels for any other family, at the start of out,
+ * and its length to *written. What lies past the header stays as it was. fields and mapping are as embulgri_head_read
+ * stores them.
+ *   23  a field is too wide for the header (pre-skip and output gain: 16 bits, input rate: 32, each other: 8), the
+ *       version is not 1, embulgri_head_read would refuse the channel mapping by 13, family 0 has other counts or
+ *       indices than its own, or a place of the mapping past those of the channels is not zero
+ *   22  not 23, and out is shorter than the header
+ *   0   neither; the header and its length are stored */
+uint32_t embulgri_head_write(const uint64_t fields[8], const uint8_t mapping[255],
+                             uint8_t *out, size_t out_n, uint64_t *written);
+
 #ifdef __cplusplus
 }
 #endif

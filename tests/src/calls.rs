@@ -1,97 +1,13 @@
-//! Calls of the library that watch all that lies around its outputs, and what the rules say that
-//! they leave.
+//! Reading calls of the library that watch all that lies around their outputs, and what the rules
+//! say that they leave.
 
 use crate::ffi;
+use crate::head::{self, Head, PLACES};
 use crate::ogg::{self, Page, HEAD};
 use crate::opus;
 use crate::reading::Reading;
+use crate::writing::{assert_same_bytes, old_bytes, BEFORE, BEHIND};
 use std::fmt::Display;
-
-/// What the length written is before a call.
-const OLD_LENGTH: u64 = 0xa5a5_0000_9999_5a5a;
-
-/// The bytes watched before and behind the writer's output.
-pub const BEFORE: usize = 16;
-const BEHIND: usize = 64;
-
-/// What the writer is given: a page, and an output of `room` bytes behind `before` others.
-pub struct Request<'a> {
-    pub page: &'a Page,
-    pub before: usize,
-    pub room: usize,
-}
-
-impl Request<'_> {
-    /// An output of exactly the page's length.
-    pub fn exact(page: &Page) -> Request<'_> {
-        Request {
-            page,
-            before: BEFORE,
-            room: page.length(),
-        }
-    }
-}
-
-/// What a call of the writer leaves: its answer, the length and all bytes around the output.
-struct Writing {
-    answer: u32,
-    written: u64,
-    buffer: Vec<u8>,
-}
-
-impl Writing {
-    fn by_library(request: &Request) -> Writing {
-        let mut writing = Writing::untouched(request, 0);
-        let output = &mut writing.buffer[request.before..][..request.room];
-        writing.answer = ffi::page_write(request.page, output, &mut writing.written);
-        writing
-    }
-
-    fn by_rules(request: &Request) -> Writing {
-        match ogg::write(request.page, request.room) {
-            Ok(bytes) => Writing::accepted(request, &bytes),
-            Err(answer) => Writing::untouched(request, answer),
-        }
-    }
-
-    fn accepted(request: &Request, bytes: &[u8]) -> Writing {
-        let mut writing = Writing::untouched(request, 0);
-        writing.written = bytes.len() as u64;
-        writing.buffer[request.before..][..bytes.len()].copy_from_slice(bytes);
-        writing
-    }
-
-    /// A buffer that would hold the page even if the room does not, so that a page written all the
-    /// same is seen.
-    fn untouched(request: &Request, answer: u32) -> Writing {
-        let length = request.before + request.room.max(request.page.length()) + BEHIND;
-        Writing {
-            answer,
-            written: OLD_LENGTH,
-            buffer: (0..length).map(old_byte).collect(),
-        }
-    }
-
-    fn assert_is(&self, expected: &Writing, case: &str) {
-        assert_eq!(self.answer, expected.answer, "number, {case}");
-        assert_eq!(self.written, expected.written, "length written, {case}");
-        assert_same_bytes(&self.buffer, &expected.buffer, case);
-    }
-}
-
-/// What the byte at a place of the writer's buffer is before a call.
-fn old_byte(place: usize) -> u8 {
-    (place as u8).wrapping_mul(167) ^ 0xa5
-}
-
-/// Names the first place that differs, as the buffers are too long to print.
-pub fn assert_same_bytes(found: &[u8], expected: &[u8], case: &str) {
-    assert_eq!(found.len(), expected.len(), "length, {case}");
-    if found != expected {
-        let place = (0..found.len()).find(|&i| found[i] != expected[i]);
-        panic!("bytes differ first at {place:?}, {case}");
-    }
-}
 
 /// What the library's reader of pages leaves.
 pub fn read_page(bytes: &[u8]) -> Reading {
@@ -121,20 +37,32 @@ pub fn check_packet(packet: &[u8], streams: u64, case: impl Display) -> Result<u
     told
 }
 
-/// Writes a page by the library, holds it to the rules and gives the answer.
-pub fn check_writing(request: &Request, case: &str) -> u32 {
-    let writing = Writing::by_library(request);
-    writing.assert_is(&Writing::by_rules(request), case);
-    writing.answer
+/// What the library's reader of identification headers leaves: its answer and the fields, and the
+/// channel mapping with the bytes around it.
+fn read_head(packet: &[u8]) -> (Reading, Vec<u8>) {
+    let mut buffer = old_bytes(BEFORE + PLACES + BEHIND);
+    let mapping = buffer[BEFORE..].first_chunk_mut().expect("255 places");
+    let reading = Reading::by_library(|fields| ffi::head_read(packet, fields, mapping));
+    (reading, buffer)
 }
 
-/// The bytes that the library writes for a legal page.
-pub fn written(page: &Page) -> Vec<u8> {
-    let request = Request::exact(page);
-    let writing = Writing::by_library(&request);
-    assert_eq!(writing.answer, 0);
-    assert_eq!(writing.written, request.room as u64);
-    writing.buffer[request.before..][..request.room].to_vec()
+/// Reads an identification header by the library, holds it to the rules and gives what they tell.
+pub fn check_head(packet: &[u8], case: impl Display) -> Result<Head, u32> {
+    let told = head::read(packet);
+    let (reading, buffer) = read_head(packet);
+    let mut expected = old_bytes(buffer.len());
+    if let Ok(head) = &told {
+        expected[BEFORE..][..PLACES].copy_from_slice(&head.mapping);
+    }
+    let fields = told.as_ref().map(Head::fields).map_err(|&number| number);
+    let (length, start) = (packet.len(), &packet[..packet.len().min(24)]);
+    assert_eq!(
+        reading,
+        Reading::by_rules(fields),
+        "{length} bytes from {start:02x?}, {case}"
+    );
+    assert_same_bytes(&buffer, &expected, case);
+    told
 }
 
 /// The page that the library finds in bytes: its fields from the numbers, the rest by the counts.
@@ -152,4 +80,12 @@ pub fn found(bytes: &[u8]) -> Page {
         lacing: lacing.to_vec(),
         body: body.to_vec(),
     }
+}
+
+/// The identification header that the library finds in bytes.
+pub fn found_head(packet: &[u8]) -> Head {
+    let (reading, buffer) = read_head(packet);
+    assert_eq!(reading.answer, 0);
+    let mapping = buffer[BEFORE..].first_chunk().expect("255 places");
+    Head::new(reading.numbers(), *mapping)
 }

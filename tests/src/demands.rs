@@ -1,5 +1,5 @@
-//! What the writer is asked for: ways to turn a legal page into what is no page, and lengths of the
-//! output.
+//! What the writer of pages is asked for: ways to turn a legal page into what is no page. And the
+//! lengths of any writer's output.
 
 use crate::inputs::{change, Change};
 use crate::ogg::{self, Page, ILLEGAL_PAGE, NO_ROOM};
@@ -82,10 +82,10 @@ fn only_body(random: &mut Random, page: &mut Page) {
     page.body.push(random.byte());
 }
 
-/// The lengths of the writer's output, from that of the page, and what comes of them if the page is
+/// The lengths of a writer's output, from the length needed, and what comes of them if the input is
 /// legal.
 pub const ROOMS: &[Change<usize>] = &[
-    change("exactly the page", &[0], |_, _| ()),
+    change("exactly as long", &[0], |_, _| ()),
     change("longer by one", &[0], |_, room| *room += 1),
     change("longer by 1 to 64", &[0], |random, room| {
         *room += random.within(1..=64)

@@ -1,6 +1,7 @@
 //! The C interface (include/embulgri.h) with safe wrappers on slices. A slice's pointer is never
 //! null, also where its length is 0, and the borrow rules keep the buffers from overlapping.
 
+use crate::head::{Head, PLACES};
 use crate::ogg::Page;
 
 extern "C" {
@@ -20,6 +21,14 @@ extern "C" {
         written: *mut u64,
     ) -> u32;
     fn embulgri_packet_read(packet: *const u8, n: usize, streams: u64, samples: *mut u64) -> u32;
+    fn embulgri_head_read(packet: *const u8, n: usize, fields: *mut u64, mapping: *mut u8) -> u32;
+    fn embulgri_head_write(
+        fields: *const u64,
+        mapping: *const u8,
+        out: *mut u8,
+        out_n: usize,
+        written: *mut u64,
+    ) -> u32;
 }
 
 pub fn checksum(bytes: &[u8]) -> u32 {
@@ -57,4 +66,31 @@ pub fn packet_read(packet: &[u8], streams: u64, samples: &mut u64) -> u32 {
     // SAFETY: the pointer and the length are those of one slice; `samples` is the one place that is
     // written.
     unsafe { embulgri_packet_read(packet.as_ptr(), packet.len(), streams, samples) }
+}
+
+pub fn head_read(packet: &[u8], fields: &mut [u64; 8], mapping: &mut [u8; PLACES]) -> u32 {
+    // SAFETY: the pointer and the length are those of one slice; `fields` and `mapping` have the
+    // places that are written.
+    unsafe {
+        embulgri_head_read(
+            packet.as_ptr(),
+            packet.len(),
+            fields.as_mut_ptr(),
+            mapping.as_mut_ptr(),
+        )
+    }
+}
+
+pub fn head_write(head: &Head, out: &mut [u8], written: &mut u64) -> u32 {
+    // SAFETY: the fields and the mapping have the places that are read; `out` goes with the length
+    // of its own slice; `out` and `written` are borrowed mutably, so they overlap nothing.
+    unsafe {
+        embulgri_head_write(
+            head.fields().as_ptr(),
+            head.mapping.as_ptr(),
+            out.as_mut_ptr(),
+            out.len(),
+            written,
+        )
+    }
 }

@@ -1,11 +1,15 @@
 //! What the tests of the Embulgri library share. The library is called over its C interface and
-//! held to an independent implementation, [`ogg`] and [`opus`], on inputs from a deterministic
-//! generator.
+//! held to an independent implementation, [`ogg`], [`opus`] and [`head`], on inputs from a
+//! deterministic generator.
 
 pub mod calls;
 pub mod damages;
 pub mod demands;
 pub mod ffi;
+pub mod head;
+pub mod head_damages;
+pub mod head_demands;
+pub mod head_inputs;
 pub mod inputs;
 pub mod ogg;
 pub mod opus;
@@ -16,3 +20,4 @@ pub mod packet_set;
 pub mod random;
 pub mod reading;
 pub mod tally;
+pub mod writing;

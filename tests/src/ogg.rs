@@ -6,7 +6,7 @@
 pub const NOT_A_PAGE: u32 = 3;
 /// The page is whole but its checksum differs.
 pub const WRONG_CHECKSUM: u32 = 4;
-/// The output is shorter than the page.
+/// The output is shorter than what is to be written.
 pub const NO_ROOM: u32 = 22;
 /// The writer was given what is no page.
 pub const ILLEGAL_PAGE: u32 = 23;
@@ -141,7 +141,7 @@ fn split(bytes: &[u8]) -> Option<(Page, u32)> {
 }
 
 /// Takes `N` bytes off the front, if there are as many.
-fn take<const N: usize>(rest: &mut &[u8]) -> Option<[u8; N]> {
+pub fn take<const N: usize>(rest: &mut &[u8]) -> Option<[u8; N]> {
     let (taken, after) = rest.split_first_chunk()?;
     *rest = after;
     Some(*taken)

@@ -1,9 +1,7 @@
 //! Holds the checksum, the reading and the writing of pages to RFC 3533 and the rules in
 //! docs/PROMISES.md.
 
-use embulgri_tests::calls::{
-    assert_same_bytes, check_reading, check_writing, found, read_page, written, Request, BEFORE,
-};
+use embulgri_tests::calls::{check_reading, found, read_page};
 use embulgri_tests::damages::{DAMAGES, UNDAMAGED};
 use embulgri_tests::demands::{DEMANDS, LEGAL, ROOMS};
 use embulgri_tests::ffi;
@@ -12,6 +10,7 @@ use embulgri_tests::ogg::{self, Page, ILLEGAL_PAGE, LONGEST, NOT_A_PAGE, NO_ROOM
 use embulgri_tests::random::Random;
 use embulgri_tests::reading::Reading;
 use embulgri_tests::tally::Tally;
+use embulgri_tests::writing::{assert_same_bytes, check_writing, written, Request, BEFORE};
 
 const CASES: usize = 120_000;
 const LEAST_CASES: usize = 100_000;
@@ -202,7 +201,7 @@ fn writing_gives_the_number_and_the_bytes_that_the_rules_say() {
         let mut room = page.length();
         (lent.apply)(&mut random, &mut room);
         let request = Request {
-            page: &page,
+            input: &page,
             before: BEFORE + random.below(16),
             room,
         };
@@ -233,6 +232,6 @@ fn writing_what_was_read_gives_the_same_bytes() {
     for number in 0..ROUND_TRIPS {
         let bytes = ogg::encode(&inputs::page(&mut random));
         let again = written(&found(&bytes));
-        assert_same_bytes(&again, &bytes, &format!("page {number}"));
+        assert_same_bytes(&again, &bytes, format_args!("page {number}"));
     }
 }

@@ -1,10 +1,14 @@
 // The library for programs in C, Rust and Python: numbers and slices only. include/embulgri.h declares these functions.
 ghost use mathlib.Core.Path.{_≡_};
+ghost use mathlib.Core.Bool.{true};
 ghost use Rattle.ogg_crc.specs.Crc.{crc};
-ghost use Rattle.embulgri.specs.Answers.{PageIn, PageOut, PacketIn};
+ghost use Rattle.embulgri.specs.Answers.{PageIn, PageOut, PacketIn, HeadIn, HeadLaid, headNumbers, fitting, headFrom};
 use ogg_page::PageHeader;
 use ogg_page::PageRead;
 use ogg_page::PageWritten;
+use opus_head::Head;
+use opus_head::HeadWritten;
+use opus_head::Verdict;
 use opus_packet::PacketRead;
 use refusal::Refusal;
 
@@ -83,5 +87,102 @@ pub extern "C" fn embulgri_packet_read(packet: &[u8], streams: u64, samples: &mu
             0
         }
         PacketRead::Refused(why) => refusal::number(why) as u32,
+    }
+}
+
+// Version, channels, pre-skip, input rate, gain in 16 bits, family, streams, coupled.
+fn head_numbers(h: Head) -> [u64; 8]
+    ensures { λ r. ⌜ r ≡ headNumbers h ⌝ }
+{
+    let gain = h.gain;
+    [
+        h.version as u64,
+        h.channels as u64,
+        h.preskip as u64,
+        h.rate as u64,
+        octets::unsigned16(gain) as u64,
+        h.family as u64,
+        h.streams as u64,
+        h.coupled as u64,
+    ]
+}
+
+// Into `fields`: the eight numbers. Into `mapping`: its 255 places.
+#[no_mangle]
+pub extern "C" fn embulgri_head_read(
+    packet: &[u8],
+    fields: &mut [u64; 8],
+    mapping: &mut [u8; 255],
+) -> u32
+    ensures { λ r. ⌜ HeadIn (now (packet .entry)) r (now (fields .entry)) (now (fields .exit)) (now (mapping .entry)) (now (mapping .exit)) ⌝ }
+{
+    let read = opus_head::read_head(packet);
+    let verdict = read.verdict;
+    let head = read.head;
+    match verdict {
+        Verdict::Right => {
+            *fields = head_numbers(head);
+            let places = head.mapping;
+            *mapping = places;
+            0
+        }
+        Verdict::Refused(why) => refusal::number(why) as u32,
+    }
+}
+
+// Whether each of the eight numbers fits its field's width.
+fn numbers_fit(fields: &[u64; 8]) -> bool
+    ensures { λ r. ⌜ r ≡ fitting (now (fields .entry)) ⌝ }
+{
+    let limits = [256u64, 256, 65536, 4294967296, 65536, 256, 256, 256];
+    let mut i = 0;
+    while i < 8 {
+        if fields[i] >= limits[i] {
+            return false;
+        }
+        i += 1;
+    }
+    true
+}
+
+fn head_from(fields: &[u64; 8], mapping: &[u8; 255]) -> Head
+    requires { ⌜ fitting (now fields) ≡ true ⌝ }
+    ensures { λ r. ⌜ r ≡ headFrom (now (fields .entry)) (now (mapping .entry)) ⌝ }
+{
+    let gain = octets::signed16(fields[4] as u16);
+    let places = *mapping;
+    Head {
+        version: fields[0] as u8,
+        channels: fields[1] as u8,
+        preskip: fields[2] as u16,
+        rate: fields[3] as u32,
+        gain,
+        family: fields[5] as u8,
+        streams: fields[6] as u8,
+        coupled: fields[7] as u8,
+        mapping: places,
+    }
+}
+
+#[no_mangle]
+pub extern "C" fn embulgri_head_write(
+    fields: &[u64; 8],
+    mapping: &[u8; 255],
+    out: &mut [u8],
+    written: &mut u64,
+) -> u32
+    ensures { λ r. ⌜ HeadLaid (now (fields .entry)) (now (mapping .entry)) r (now (out .entry)) (now (out .exit)) (now (written .entry)) (now (written .exit)) ⌝ }
+{
+    if !numbers_fit(fields) {
+        return refusal::number(Refusal::UnfitFields) as u32;
+    }
+    let head = head_from(fields, mapping);
+    let wrote = opus_head::write_head(head, out);
+    match wrote {
+        HeadWritten::Bytes(n) => {
+            *written = n as u64;
+            0
+        }
+        HeadWritten::Refused(why) => refusal::number(why) as u32,
     }
 }

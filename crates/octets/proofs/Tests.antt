@@ -1,9 +1,9 @@
 -- Tests on numbers: from what calls gave to what their promises name, and a test made of two. Assumes nothing.
 use mathlib.Core.Path.{_≡_, refl, _∙_, sym}
-use mathlib.Core.Bool.{Bool, true, false, _&&_}
+use mathlib.Core.Bool.{Bool, true, false, not, _&&_}
 use Prim.Native.Nat.{ℕ}
 use native.Mathlib.Omega.{arith}
-use borrow.Author.Tests.{eq-eqb, ne-eqb, eqb-true}
+use borrow.Author.Tests.{eq-eqb, ne-eqb, eqb-true, not-true, not-false}
 use lib.Dec.{eqb}
 
 -- two numbers that calls gave
@@ -19,6 +19,13 @@ equals {k = k} e h = agrees {y = k} e refl h
 
 pub unequal : {r x k : ℕ} → r ≡ x → (r ≡ k → ⊥) → eqb x k ≡ false
 unequal {k = k} e h = differs {y = k} e refl h
+
+-- a call's answer tested by `if !f(x)`
+pub failed : {r t : Bool} → r ≡ t → not r ≡ true → t ≡ false
+failed {r} e h = sym e ∙ not-true r h
+
+pub held : {r t : Bool} → r ≡ t → not r ≡ false → t ≡ true
+held {r} e h = sym e ∙ not-false r h
 
 pub both : (a b : Bool) → a && b ≡ true → (a ≡ true) × (b ≡ true)
 both true b e = (refl, e)

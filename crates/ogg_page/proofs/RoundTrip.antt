@@ -1,19 +1,17 @@
 -- Reading what was written gives it back, and writing what was read does. Assumes nothing.
 use mathlib.Core.Path.{_≡_, refl, sym, ap, _∙_}
 use mathlib.Core.Bool.{true, _&&_}
-use mathlib.Core.List.{_∷_, _++_}
+use mathlib.Core.List.{_++_}
 use mathlib.Core.Option.{none}
-use Prim.Native.Nat.{ℕ, suc, _+_, _^_, _≤_, _<_}
+use Prim.Native.Nat.{ℕ, _^_, _≤_, _<_}
 use native.Mathlib.Omega.{arith}
 use borrow.Author.Tests.{ltb-false, eqb-true, not-false, eq-eqb}
 use lib.Dec.{eqb}
-use lib.ListN.{length, getD, take, drop, length-take, length-drop, take-append-drop}
-use lib.Seq.{length-take-le, take-length, take-append-seam, drop-cons, drop-drop}
+use lib.ListN.{length, getD, drop, length-take, length-drop, take-append-drop}
+use lib.Seq.{take-length, take-append-seam, drop-drop}
 use Rattle.octets.specs.Octets.{Bytes, Octets, total}
-use Rattle.octets.specs.Numbers.{value, octets, number}
-use Rattle.octets.proofs.Numbers.{octets-value}
+use Rattle.octets.proofs.Fields.{field, byte}
 use Rattle.octets.proofs.Copying.{copied-fits}
-use Rattle.octets.proofs.Parts.{octets-drop, octets-take}
 use Rattle.octets.proofs.Tests.{both, equal-and}
 use Rattle.refusal.proofs.Checks.{no-refusal, passed}
 use Rattle.refusal.specs.Checks.{firstOf}
@@ -74,18 +72,6 @@ reads-back h l b out f e =
     (page-reads h x l b (s .sum) f (page-crc h x l b) (page-crc-fits (page h 0 l b)))
 
 -- ---- writing what was read
-
--- a field and what follows it
-field : (n at : ℕ) (p : Bytes) → Octets p → at + n ≤ length p → octets n (number n p at) ++ drop (at + n) p ≡ drop at p
-unfolding number
-field n at p o h =
-    let t : Bytes = take n (drop at p) in
-    let size : length t ≡ n = length-take-le n (drop at p) (simp length-drop (omega arith)) in
-    let same : octets n (value t) ≡ t = rw size at (octets-value t (octets-take n (drop at p) (octets-drop at p o))) in
-    rw (same, ← drop-drop n at p) (take-append-drop n (drop at p))
-
-byte : (at v : ℕ) (p : Bytes) → getD p at 0 ≡ v → at < length p → v ∷ drop (suc at) p ≡ drop at p
-byte at v p e h = rw (← e) (sym (drop-cons p at 0 h))
 
 capture : (p : Bytes) → hasCapture p ≡ true
     → (getD p 0 0 ≡ 0x4f) × ((getD p 1 0 ≡ 0x67) × ((getD p 2 0 ≡ 0x67) × (getD p 3 0 ≡ 0x53)))

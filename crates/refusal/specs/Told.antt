@@ -13,3 +13,8 @@ pub data Told (A : Type 0) : Type 0 where
 abbrev pub decided : {A : Type 0} → Option Refusal → A → Told A
 decided none a = gives a
 decided (some r) a = refuses (numberOf r)
+
+-- the same with what is given turned into something else
+abbrev pub retold : {A B : Type 0} → (A → B) → Told A → Told B
+retold f (gives a) = gives (f a)
+retold f (refuses n) = refuses n

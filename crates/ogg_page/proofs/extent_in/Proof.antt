@@ -3,8 +3,8 @@ use mathlib.Core.Path.{sym, ap, _∙_}
 use Prim.Native.Nat.{ℕ, _+_}
 use native.Mathlib.Omega.{arith}
 use borrow.Author.Needs.{needs}
-use borrow.Author.Tests.{not-true, not-false}
 use denote.Ref.{now}
+use Rattle.octets.proofs.Tests.{failed, held}
 use Rattle.ogg_page.specs.declared.Extent.the-variants.{Ends}
 use Rattle.ogg_page.proofs.Extents.{short-header, no-page, short-lacing, ends-at}
 use Rattle.ogg_page.proofs.extent_in.Statement.{statement}
@@ -18,7 +18,7 @@ returns-2 c =
     let call = c .before .has-capture in
     let first = c .before .before in
     let a = first .before .before .args in
-    sym (no-page (now (a .s)) (a .at) (first .if1 .left) (sym (call .ensures) ∙ not-true (call .result) (c .if2 .taken)))
+    sym (no-page (now (a .s)) (a .at) (first .if1 .left) (failed (call .ensures) (c .if2 .taken)))
 
 returns-3 : tie.Need-returns-3
 returns-3 c =
@@ -28,7 +28,7 @@ returns-3 c =
     let first = second .before .before in
     let a = first .before .before .args in
     sym
-    (short-lacing (now (a .s)) (a .at) (first .if1 .left) (sym (call .ensures) ∙ not-false (call .result) (second .if2 .left))
+    (short-lacing (now (a .s)) (a .at) (first .if1 .left) (held (call .ensures) (second .if2 .left))
     (omega (arith, c .before .wide .ensures .0, byte .byte-at .ensures)))
 
 returns-4 : tie.Need-returns-4
@@ -41,7 +41,7 @@ returns-4 c =
     let a = first .before .before .args in
     ap (λ (n : ℕ). Ends (a .at + n)) (c .size-of .ensures .0)
     ∙ sym
-    (ends-at (now (a .s)) (a .at) (first .if1 .left) (sym (call .ensures) ∙ not-false (call .result) (second .if2 .left))
+    (ends-at (now (a .s)) (a .at) (first .if1 .left) (held (call .ensures) (second .if2 .left))
     (omega (arith, third .before .wide .ensures .0, byte .byte-at .ensures)))
 
 pub extent-in-spec : {M : Type 1} → statement M

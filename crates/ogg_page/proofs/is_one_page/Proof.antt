@@ -1,11 +1,10 @@
 -- `ogg_page::is_one_page` meets its contract. Assumes nothing.
 use mathlib.Core.Path.{sym, ap, _∙_}
 use borrow.Author.Needs.{needs}
-use borrow.Author.Tests.{not-true, not-false}
 use denote.Ref.{now}
 use lib.Dec.{eqb}
 use lib.ListN.{length}
-use Rattle.octets.proofs.Tests.{equals, unequal}
+use Rattle.octets.proofs.Tests.{equals, unequal, failed, held}
 use Rattle.ogg_page.proofs.Reading.{no-capture, other-version, size-decides}
 use Rattle.ogg_page.proofs.is_one_page.Statement.{statement}
 use Rattle.ogg_page.proofs.is_one_page.Tie as tie
@@ -13,14 +12,14 @@ use Rattle.ogg_page.proofs.is_one_page.Tie as tie
 returns : tie.Need-returns
 returns c =
     let call = c .before .has-capture in
-    sym (no-capture (now (c .before .before .before .args .page)) (sym (call .ensures) ∙ not-true (call .result) (c .if1 .taken)))
+    sym (no-capture (now (c .before .before .before .args .page)) (failed (call .ensures) (c .if1 .taken)))
 
 returns-2 : tie.Need-returns-2
 returns-2 c =
     let first = c .before .before in
     let call = first .before .has-capture in
     sym
-    (other-version (now (first .before .before .before .args .page)) (sym (call .ensures) ∙ not-false (call .result) (first .if1 .left))
+    (other-version (now (first .before .before .before .args .page)) (held (call .ensures) (first .if1 .left))
     (unequal (c .before .byte-at .ensures) (c .if2 .taken)))
 
 returns-3 : tie.Need-returns-3
@@ -31,7 +30,7 @@ returns-3 c =
     let page = now (first .before .before .before .args .page) in
     ap (eqb (length page)) (c .size-of .ensures .0)
     ∙ sym
-    (size-decides page (sym (call .ensures) ∙ not-false (call .result) (first .if1 .left))
+    (size-decides page (held (call .ensures) (first .if1 .left))
     (equals (second .before .byte-at .ensures) (second .if2 .left)))
 
 pub is-one-page-spec : {M : Type 1} → statement M

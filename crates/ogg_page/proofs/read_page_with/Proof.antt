@@ -1,12 +1,11 @@
 -- `ogg_page::read_page_with` meets its contract. Assumes nothing.
 use mathlib.Core.Path.{sym, ap, _∙_}
 use borrow.Author.Needs.{needs}
-use borrow.Author.Tests.{not-true, not-false}
 use denote.Ref.{now}
 use Rattle.refusal.specs.Told.{gives}
 use Rattle.ogg_crc.specs.Table.{entryIn}
 use Rattle.ogg_crc.specs.Sliced.{pageSliced}
-use Rattle.octets.proofs.Tests.{agrees, differs}
+use Rattle.octets.proofs.Tests.{agrees, differs, failed, held}
 use Rattle.ogg_page.proofs.Reading.{not-one-page, wrong-checksum, right-page}
 use Rattle.ogg_page.proofs.read_page_with.Statement.{statement}
 use Rattle.ogg_page.proofs.read_page_with.Tie as tie
@@ -15,7 +14,7 @@ returns : tie.Need-returns
 returns c =
     let call = c .before .is-one-page in
     let a = c .before .before .before .args in
-    sym (not-one-page (pageSliced (entryIn (now (a .tables)))) (now (a .page)) (sym (call .ensures) ∙ not-true (call .result) (c .if1 .taken)))
+    sym (not-one-page (pageSliced (entryIn (now (a .tables)))) (now (a .page)) (failed (call .ensures) (c .if1 .taken)))
 
 returns-2 : tie.Need-returns-2
 returns-2 c =
@@ -24,7 +23,7 @@ returns-2 c =
     let call = first .before .is-one-page in
     let a = first .before .before .before .args in
     sym
-    (wrong-checksum (pageSliced (entryIn (now (a .tables)))) (now (a .page)) (sym (call .ensures) ∙ not-false (call .result) (first .if1 .left))
+    (wrong-checksum (pageSliced (entryIn (now (a .tables)))) (now (a .page)) (held (call .ensures) (first .if1 .left))
     (differs (sum .page-checksum-with .ensures) (c .before .number32 .ensures) (c .if2 .taken)))
 
 returns-3 : tie.Need-returns-3
@@ -36,7 +35,7 @@ returns-3 c =
     let a = first .before .before .before .args in
     ap gives (c .header-of .ensures)
     ∙ sym
-    (right-page (pageSliced (entryIn (now (a .tables)))) (now (a .page)) (sym (call .ensures) ∙ not-false (call .result) (first .if1 .left))
+    (right-page (pageSliced (entryIn (now (a .tables)))) (now (a .page)) (held (call .ensures) (first .if1 .left))
     (agrees (sum .page-checksum-with .ensures) (second .before .number32 .ensures) (second .if2 .left)))
 
 pub read-page-with-spec : {M : Type 1} → statement M

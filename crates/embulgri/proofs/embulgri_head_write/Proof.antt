@@ -1,0 +1,49 @@
+-- `embulgri::embulgri_head_write` meets its contract. Assumes nothing.
+use mathlib.Core.Path.{sym, ap, _∙_}
+use borrow.Author.Needs.{needs}
+use denote.Ref.{now}
+use Rattle.octets.proofs.Tests.{failed, held}
+use Rattle.refusal.specs.Told.{refuses}
+use Rattle.opus_head.specs.Writing.{toldWritten}
+use Rattle.embulgri.proofs.Answers.{numbers-unfit, head-written, head-unwritten}
+use Rattle.embulgri.proofs.embulgri_head_write.Statement.{statement}
+use Rattle.embulgri.proofs.embulgri_head_write.Tie as tie
+
+returns : tie.Need-returns
+returns c =
+    let a = c .before .before .before .before .args in
+    rw (c .number .ensures)
+    (numbers-unfit (now (a .fields)) (now (a .mapping)) (now (a .out)) (now (a .written)) (failed (c .before .before .numbers-fit .ensures) (c .before .if1 .taken)))
+
+head-from-requires : tie.Need-head-from-requires
+head-from-requires c κs = held (c .before .numbers-fit .ensures) (c .if1 .left)
+
+returns-2 : tie.Need-returns-2
+returns-2 c =
+    let arm = c .before in
+    let call = arm .before .before .before .before in
+    let made = call .before .before in
+    let first = made .before in
+    let a = first .before .before .before .args in
+    head-written (now (a .fields)) (now (a .mapping)) (now (a .out)) (now (a .written)) (made .head-from .ensures)
+    (held (first .before .numbers-fit .ensures) (first .if1 .left)) (call .write-head .ensures .output)
+    (sym (call .write-head .ensures .told) ∙ ap toldWritten (arm .wrote .given .1))
+
+returns-3 : tie.Need-returns-3
+returns-3 c =
+    let arm = c .before .before in
+    let call = arm .before .before .before .before in
+    let made = call .before .before in
+    let first = made .before in
+    let a = first .before .before .before .args in
+    head-unwritten (now (a .fields)) (now (a .mapping)) (now (a .out)) (now (a .written)) (made .head-from .ensures)
+    (held (first .before .numbers-fit .ensures) (first .if1 .left)) (call .write-head .ensures .output)
+    (sym (call .write-head .ensures .told) ∙ ap toldWritten (arm .wrote2 .given .1) ∙ ap refuses (sym (c .number2 .ensures)))
+
+pub embulgri-head-write-spec : {M : Type 1} → statement M
+embulgri-head-write-spec =
+    tie.close
+    (tie.spec
+    (λ c κs. search needs) (λ c κs. search needs) (λ c. search needs) returns head-from-requires
+    (λ c κs. search needs) (λ c. search needs) (λ c. search needs) (λ c κs. search needs) (λ c. search needs)
+    (λ c. search needs) returns-2 (λ c. search needs) returns-3)

@@ -1,0 +1,90 @@
+//! The ways to ask the writer of identification headers for what reading never gives, whatever the
+//! channel mapping.
+
+use crate::head::{Head, PLACES, UNFIT_FIELDS, WIDTHS};
+use crate::head_inputs::{head_of_family_0, head_with_table, without_table};
+use crate::inputs::{change, Change};
+use crate::random::Random;
+
+const UNFIT: &[u32] = &[UNFIT_FIELDS];
+
+pub const DEMANDS: &[Change<Head>] = &[
+    change("version 0", UNFIT, |_, head| head.version = 0),
+    change("version 2", UNFIT, |_, head| head.version = 2),
+    change("another version", UNFIT, |random, head| {
+        head.version = random.within(2..=255) as u64
+    }),
+    change("the least bit above a field set", UNFIT, |random, head| {
+        set_bit(random, head, |_, width| width)
+    }),
+    change("a bit above a field set", UNFIT, |random, head| {
+        set_bit(random, head, |random, width| {
+            random.within(width as usize..=63) as u32
+        })
+    }),
+    change("the highest bit of a field set", UNFIT, |random, head| {
+        set_bit(random, head, |_, _| 63)
+    }),
+    change(
+        "the gain with its sign in 64 bits",
+        UNFIT,
+        |random, head| {
+            let gain = -(random.within(1..=0x8000) as i64);
+            head.gain = gain.cast_unsigned()
+        },
+    ),
+    change("the first unused place not zero", UNFIT, |random, head| {
+        spare_places(random, head);
+        put_other(random, head, head.channels as usize)
+    }),
+    change("the last unused place not zero", UNFIT, |random, head| {
+        spare_places(random, head);
+        put_other(random, head, PLACES - 1)
+    }),
+    change("an unused place not zero", UNFIT, |random, head| {
+        spare_places(random, head);
+        let place = random.within(head.channels as usize..=PLACES - 1);
+        put_other(random, head, place)
+    }),
+    change("family 0 of another stream count", UNFIT, |random, head| {
+        *head = head_of_family_0(random);
+        head.streams = *random.pick(&[0, 2, 3, 254, 255])
+    }),
+    change("family 0 of one coupled channel", UNFIT, |random, head| {
+        *head = without_table(random, 1);
+        head.coupled = 1
+    }),
+    change("family 0 of two channels alike", UNFIT, |random, head| {
+        *head = without_table(random, 2);
+        head.coupled = 0;
+        head.mapping[1] = 0
+    }),
+    change("family 0 of channels exchanged", UNFIT, |random, head| {
+        *head = without_table(random, 2);
+        head.mapping.swap(0, 1)
+    }),
+    change("family 0 of another index", UNFIT, |random, head| {
+        *head = head_of_family_0(random);
+        let place = random.below(head.channels as usize);
+        put_other(random, head, place)
+    }),
+];
+
+/// Sets a bit of any field, its place by the field's width.
+fn set_bit(random: &mut Random, head: &mut Head, bit: fn(&mut Random, u32) -> u32) {
+    let mut fields = head.fields();
+    let place = random.below(fields.len());
+    fields[place] |= 1 << bit(random, WIDTHS[place]);
+    *head = Head::new(fields, head.mapping);
+}
+
+/// Takes another header if this one uses all the places.
+fn spare_places(random: &mut Random, head: &mut Head) {
+    while head.channels as usize == PLACES {
+        *head = head_with_table(random);
+    }
+}
+
+fn put_other(random: &mut Random, head: &mut Head, place: usize) {
+    head.mapping[place] ^= random.within(1..=255) as u8;
+}

@@ -1,0 +1,148 @@
+//! Legal identification headers of all shapes for the random runs, and a fixed set of them.
+
+use crate::head::{Head, PLACES, SILENCE};
+use crate::random::Random;
+
+/// Stream counts and coupled counts that are legal, at the ends of what they can be.
+pub const COUNTS: [(usize, usize); 10] = [
+    (1, 0),
+    (1, 1),
+    (2, 1),
+    (2, 2),
+    (5, 3),
+    (127, 127),
+    (128, 126),
+    (128, 127),
+    (254, 1),
+    (255, 0),
+];
+
+/// A legal header of any family.
+pub fn head(random: &mut Random) -> Head {
+    if random.one_in(4) {
+        head_of_family_0(random)
+    } else {
+        head_with_table(random)
+    }
+}
+
+/// A legal header of family 0.
+pub fn head_of_family_0(random: &mut Random) -> Head {
+    let channels = random.within(1..=2);
+    without_table(random, channels)
+}
+
+/// A legal header of family 1 or 255.
+pub fn head_with_table(random: &mut Random) -> Head {
+    let (family, most) = *random.pick(&[(1, 8), (255, PLACES)]);
+    let channels = match random.below(8) {
+        0 => 1,
+        1 => most,
+        2..=4 => random.within(1..=8),
+        _ => random.within(1..=most),
+    };
+    let counts = counts(random);
+    with_table(random, family, channels, counts)
+}
+
+/// A header of a family other than 0, of which only the family and the number of channels can be
+/// wrong.
+pub fn with_table(
+    random: &mut Random,
+    family: u64,
+    channels: usize,
+    (streams, coupled): (usize, usize),
+) -> Head {
+    let mut mapping = [0; PLACES];
+    for place in &mut mapping[..channels] {
+        *place = index(random, streams + coupled);
+    }
+    Head {
+        family,
+        channels: channels as u64,
+        streams: streams as u64,
+        coupled: coupled as u64,
+        mapping,
+        ..blank(random)
+    }
+}
+
+/// A header of family 0, of which only the number of channels can be wrong.
+pub fn without_table(random: &mut Random, channels: usize) -> Head {
+    let mut mapping = [0; PLACES];
+    for (place, index) in mapping[..channels].iter_mut().zip(0..) {
+        *place = index;
+    }
+    Head {
+        channels: channels as u64,
+        streams: 1,
+        coupled: channels.saturating_sub(1) as u64,
+        mapping,
+        ..blank(random)
+    }
+}
+
+/// An index that is legal where so many channels are decoded.
+pub fn index(random: &mut Random, decoded: usize) -> u8 {
+    match (random.below(6), decoded) {
+        (0, _) | (_, 0) => SILENCE,
+        (1, _) => decoded.min(255) as u8 - 1,
+        (_, _) => random.below(decoded.min(255)) as u8,
+    }
+}
+
+/// Headers of each number of channels where a rule changes, in each family.
+pub fn legal_set(random: &mut Random) -> Vec<Head> {
+    let mut set = vec![without_table(random, 1), without_table(random, 2)];
+    let first = (1..=8).map(|channels| (1, channels));
+    let last = [1, 2, 8, 9, 100, 254, 255].map(|channels| (255, channels));
+    for ((family, channels), counts) in first.chain(last).zip(COUNTS.into_iter().cycle()) {
+        set.push(with_table(random, family, channels, counts));
+    }
+    set
+}
+
+/// A stream count and a coupled count that are legal.
+fn counts(random: &mut Random) -> (usize, usize) {
+    if random.one_in(2) {
+        return *random.pick(&COUNTS);
+    }
+    let streams = match random.one_in(2) {
+        true => random.within(1..=8),
+        false => random.within(1..=255),
+    };
+    let most = streams.min(255 - streams);
+    let coupled = match random.one_in(4) {
+        true => most,
+        false => random.within(0..=most),
+    };
+    (streams, coupled)
+}
+
+/// A header of no channels, with any values of the fields that the channel mapping does not need.
+fn blank(random: &mut Random) -> Head {
+    Head {
+        version: 1,
+        channels: 0,
+        pre_skip: field(random, 16),
+        rate: field(random, 32),
+        gain: field(random, 16),
+        family: 0,
+        streams: 0,
+        coupled: 0,
+        mapping: [0; PLACES],
+    }
+}
+
+/// A value of so many bits: often one of the ends, also of those with a sign.
+fn field(random: &mut Random, bits: u32) -> u64 {
+    let most = (1 << bits) - 1;
+    match random.below(10) {
+        0 => 0,
+        1 => 1,
+        2 => most,
+        3 => most / 2,
+        4 => most / 2 + 1,
+        _ => random.number() & most,
+    }
+}

@@ -1,0 +1,98 @@
+//! Holds the reading and the writing of identification headers to an independent implementation on
+//! random ones, and to each other.
+
+use embulgri_tests::calls::{check_head, found_head};
+use embulgri_tests::damages::UNDAMAGED;
+use embulgri_tests::demands::ROOMS;
+use embulgri_tests::head::{encode, BAD_HEAD, BAD_MAPPING, UNFIT_FIELDS};
+use embulgri_tests::head_damages::{DAMAGES, LEGAL, WRONG_MAPPINGS};
+use embulgri_tests::head_demands::DEMANDS;
+use embulgri_tests::head_inputs::head;
+use embulgri_tests::inputs::shifted;
+use embulgri_tests::ogg::NO_ROOM;
+use embulgri_tests::random::Random;
+use embulgri_tests::tally::Tally;
+use embulgri_tests::writing::{assert_same_bytes, check_writing, written, Request, BEFORE};
+
+const CASES: usize = 240_000;
+const LEAST_CASES: usize = 200_000;
+const ROUND_TRIPS: usize = 50_000;
+
+#[test]
+fn reading_gives_the_number_the_fields_and_the_mapping_that_the_rules_say() {
+    let mut random = Random::of_run(51);
+    let mut tally = Tally::default();
+    for number in 0..CASES {
+        let mut head = head(&mut random);
+        let (mapping, damage) = match random.below(8) {
+            0..=3 => (&LEGAL, &UNDAMAGED),
+            4..=5 => (random.pick(WRONG_MAPPINGS), &UNDAMAGED),
+            6 => (&LEGAL, random.pick(DAMAGES)),
+            _ => (random.pick(WRONG_MAPPINGS), random.pick(DAMAGES)),
+        };
+        (mapping.apply)(&mut random, &mut head);
+        let mut bytes = encode(&head);
+        (damage.apply)(&mut random, &mut bytes);
+        let (buffer, start) = shifted(&mut random, &bytes);
+        let case = format!("input {number}: {}, {}", mapping.name, damage.name);
+        let answer = check_head(&buffer[start..], &case).err().unwrap_or(0);
+        let answers = match damage.name == UNDAMAGED.name {
+            true => mapping.answers,
+            false => damage.answers,
+        };
+        assert!(answers.contains(&answer), "{answer}, {case}");
+        tally.add(answer);
+    }
+    tally.finish("headers read", LEAST_CASES, &[BAD_HEAD, BAD_MAPPING]);
+}
+
+#[test]
+fn writing_gives_the_number_and_the_bytes_that_the_rules_say() {
+    let mut random = Random::of_run(52);
+    let mut tally = Tally::default();
+    for number in 0..CASES {
+        let mut head = head(&mut random);
+        let demand = match random.below(8) {
+            0 => random.pick(WRONG_MAPPINGS),
+            1 => random.pick(DEMANDS),
+            _ => &LEGAL,
+        };
+        (demand.apply)(&mut random, &mut head);
+        let lent = random.pick(ROOMS);
+        let mut room = head.length();
+        (lent.apply)(&mut random, &mut room);
+        let request = Request {
+            input: &head,
+            before: BEFORE + random.below(16),
+            room,
+        };
+        let case = format!("input {number}: {}, output {}", demand.name, lent.name);
+        let answer = check_writing(&request, &case);
+        assert!(demand.answers.contains(&answer), "{answer}, {case}");
+        assert!(
+            answer == UNFIT_FIELDS || lent.answers.contains(&answer),
+            "{answer}, {case}"
+        );
+        tally.add(answer);
+    }
+    tally.finish("headers written", LEAST_CASES, &[NO_ROOM, UNFIT_FIELDS]);
+}
+
+#[test]
+fn reading_what_was_written_gives_the_same_fields_and_mapping() {
+    let mut random = Random::of_run(53);
+    for _ in 0..ROUND_TRIPS {
+        let head = head(&mut random);
+        assert_eq!(found_head(&written(&head)), head);
+    }
+}
+
+#[test]
+fn writing_what_was_read_gives_the_same_bytes() {
+    let mut random = Random::of_run(54);
+    for number in 0..ROUND_TRIPS {
+        let bytes = encode(&head(&mut random));
+        let again = written(&found_head(&bytes));
+        assert_same_bytes(&again, &bytes, format_args!("header {number}"));
+    }
+}
