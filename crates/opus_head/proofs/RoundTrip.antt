@@ -1,5 +1,5 @@
 -- Reading what was written gives it back, writing what was read does, and what was read can be written. Assumes nothing.
-use mathlib.Core.Path.{_≡_, refl, sym}
+use mathlib.Core.Path.{_≡_, refl, sym, ap, _∙_}
 use mathlib.Core.Bool.{Bool, true, false, _&&_}
 use mathlib.Core.List.{[], _∷_, _++_, append-assoc}
 use Prim.Native.Nat.{ℕ, _+_, _-_, _≤_}
@@ -27,6 +27,7 @@ use Rattle.opus_head.specs.Right.{rightVersion, tableLength, allowedChan
 use Rattle.opus_head.specs.Reading.{isHead, readChecks, readHead}
 use Rattle.opus_head.specs.Writing.{startOf, headBytes, headSize, writeChecks, writeTold, writeOut}
 use Rattle.opus_head.specs.Statements.{Fit, ReadsBack, WritesBack, ReadIsRight}
+use Rattle.opus_head.proofs.Answers.{writable}
 use Rattle.opus_head.proofs.Mapping.{used-places, unused-zero, places-used, channels-most, plain-length}
 use Rattle.opus_head.proofs.HeaderBytes.{head-length, head-signature, head-version, head-channels, head-family, plain-head, table-head}
 
@@ -188,8 +189,14 @@ module _ (b : Bytes) (h : Head) (r : Read b h) where
       rw (eq-eqb (getD b 8 0) 1 (r .version), r .mapping, plain-right (eqb (getD b 18 0) 0) refl)
       (unused-zero (getD b 9 0) (indicesOf b) indexed)
 
-pub writes-back : WritesBack
-writes-back b h o e one = let r = read b h e in rw (r .given) at (rebuilt b h r o)
-
 pub read-is-right : ReadIsRight
 read-is-right b h o e = let r = read b h e in rw (r .given) at (right b h r)
+
+pub writes-back : WritesBack
+unfolding headOf writeTold writeOut
+writes-back b out h o e one room =
+    let r = read b h e in
+    let same : headBytes h ≡ b = rw (r .given) at (rebuilt b h r o) in
+    let size : length b ≡ headSize h = r .size ∙ ap headSize (r .given) in
+    let clear = writable h out refl (read-is-right b h o e) (omega arith) in
+    (rw clear (ap gives (sym size)), rw (clear, same))
