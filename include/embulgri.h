@@ -65,6 +65,13 @@ uint32_t embulgri_head_read(const uint8_t *packet, size_t n, uint64_t fields[8],
 uint32_t embulgri_head_write(const uint64_t fields[8], const uint8_t mapping[255],
                              uint8_t *out, size_t out_n, uint64_t *written);
 
+/* Adds a packet's length in samples to the old clock: to *reading, which rounds the sum once, to the nearest float and
+ * at a tie to the even one, and to *count, which is exact. A clock starts at 0 and 0; any reading and any count are
+ * taken, a NaN or an infinity too. A NaN that is stored may have any payload and any sign.
+ *   30  length is not a multiple of 120 from 120 to 5760, or the count would pass 2^63 - 1
+ *   0   neither; the reading and the count are stored */
+uint32_t embulgri_clock_add(float *reading, uint64_t *count, uint64_t length);
+
 #ifdef __cplusplus
 }
 #endif

@@ -25,7 +25,9 @@ use Rattle.opus_head.specs.declared.Verdict.{Verdict}
 use Rattle.opus_head.specs.declared.Verdict.the-variants.{Right, Refused}
 use Rattle.opus_head.specs.Reading.{readHead, toldBy, HeadIs}
 use Rattle.opus_head.specs.Writing.{writeTold, writeOut}
-use Rattle.embulgri.specs.Answers.{PageIn, PageOut, PacketIn, headNumbers, fitting, headFrom, HeadIn, headTold, headOut, HeadLaid}
+use Rattle.old_clock.specs.declared.Clock.{Clock}
+use Rattle.old_clock.specs.Clock.{addLength}
+use Rattle.embulgri.specs.Answers.{PageIn, PageOut, PacketIn, headNumbers, fitting, headFrom, HeadIn, headTold, headOut, HeadLaid, ClockAfter}
 
 module _ (p : Bytes) (old : List ℕ) where
   pub page-read : (h : PageHeader) (l b : Bytes) → readPage pageCrc p ≡ gives h → l ≡ lacingOf p → b ≡ bodyOf p
@@ -88,3 +90,10 @@ module _ (f m out : Bytes) (old : ℕ) where
     pub head-unwritten : {n : ℕ} → writeTold h out ≡ refuses n → HeadLaid f m n out end old old
     unfolding headTold headOut
     head-unwritten e = record { answer = rw (fit, ← from, e); output = rw (fit, ← from) laid; written = rw (fit, ← from, e) }
+
+module _ (old : Clock) (length : ℕ) where
+  pub clock-added : (end : Clock) → addLength old length ≡ gives end → ClockAfter old length 0 end
+  clock-added end e = record { answer = rw e; clock = rw e }
+
+  pub clock-refused : (n : ℕ) → addLength old length ≡ refuses n → ClockAfter old length n old
+  clock-refused n e = record { answer = rw e; clock = rw e }

@@ -20,6 +20,8 @@ use Rattle.opus_packet.specs.Streams.{readPacket}
 use Rattle.opus_head.specs.declared.Head.{Head}
 use Rattle.opus_head.specs.Reading.{readHead}
 use Rattle.opus_head.specs.Writing as headWriting
+use Rattle.old_clock.specs.declared.Clock.{Clock}
+use Rattle.old_clock.specs.Clock.{addLength}
 
 abbrev pub numberIn : {A : Type 0} → Told A → ℕ
 numberIn (gives a) = 0
@@ -100,3 +102,10 @@ pub record HeadLaid (f : List ℕ) (m : Bytes) (number : ℕ) (out end : Bytes) 
   pub answer : number ≡ numberIn (headTold f m out)
   pub output : end ≡ headOut f m out
   pub written : count ≡ stored (headTold f m out) old
+
+-- ---- the old clock
+
+-- adding a length: the returned number, and the record from `old` to `end`
+pub record ClockAfter (old : Clock) (length number : ℕ) (end : Clock) : Type 0 where
+  pub answer : number ≡ numberIn (addLength old length)
+  pub clock : end ≡ stored (addLength old length) old

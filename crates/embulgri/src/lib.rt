@@ -2,10 +2,12 @@
 ghost use mathlib.Core.Path.{_≡_};
 ghost use mathlib.Core.Bool.{true};
 ghost use Rattle.ogg_crc.specs.Crc.{crc};
-ghost use Rattle.embulgri.specs.Answers.{PageIn, PageOut, PacketIn, HeadIn, HeadLaid, headNumbers, fitting, headFrom};
+ghost use Rattle.embulgri.specs.Answers.{PageIn, PageOut, PacketIn, HeadIn, HeadLaid, headNumbers, fitting, headFrom, ClockAfter};
 use ogg_page::PageHeader;
 use ogg_page::PageRead;
 use ogg_page::PageWritten;
+use old_clock::Added;
+use old_clock::Clock;
 use opus_head::Head;
 use opus_head::HeadWritten;
 use opus_head::Verdict;
@@ -184,5 +186,25 @@ pub extern "C" fn embulgri_head_write(
             0
         }
         HeadWritten::Refused(why) => refusal::number(why) as u32,
+    }
+}
+
+// Adds a packet's length to the old clock's reading and to its exact count.
+#[no_mangle]
+pub extern "C" fn embulgri_clock_add(reading: &mut f32, count: &mut u64, length: u64) -> u32
+    ensures { λ r. ⌜ ClockAfter (record { reading = now (reading .entry); count = now (count .entry) }) length r (record { reading = now (reading .exit); count = now (count .exit) }) ⌝ }
+{
+    let clock = Clock {
+        reading: *reading,
+        count: *count,
+    };
+    let added = old_clock::add(clock, length);
+    match added {
+        Added::Clock(next) => {
+            *reading = next.reading;
+            *count = next.count;
+            0
+        }
+        Added::Refused(why) => refusal::number(why) as u32,
     }
 }

@@ -12,7 +12,7 @@ use Rattle.octets.proofs.Tests.{both}
 use Rattle.refusal.specs.Checks.{firstOf}
 use Rattle.refusal.specs.Told.{Told, gives, refuses}
 use Rattle.old_clock.specs.declared.Clock.{Clock}
-use Rattle.old_clock.specs.Clock.{rightLength, rightLengths, mostCount, advanced, addLength, kept, after}
+use Rattle.old_clock.specs.Clock.{rightLength, rightLengths, mostCount, advanced, addLength, recordAfter, after}
 use Rattle.old_clock.specs.Statements.{CountsAll}
 
 pub record Multiple (n : ℕ) : Type 0 where
@@ -43,7 +43,7 @@ module _ (c : Clock) (n : ℕ) where
 pub after-taken : (c : Clock) (n : ℕ) (lengths : List ℕ) → c .count + n ≤ mostCount → rightLength n ≡ true
     → after c (n ∷ lengths) ≡ after (advanced c n) lengths
 unfolding after
-after-taken c n lengths room right = ap (λ (t : Told Clock). after (kept c t) lengths) (taken c n room right)
+after-taken c n lengths room right = ap (λ (t : Told Clock). after (recordAfter c t) lengths) (taken c n room right)
 
 pub counts-all : CountsAll
 unfolding rightLengths after total

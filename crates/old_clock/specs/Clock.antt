@@ -48,11 +48,11 @@ toldAdded (Refused r) = refuses (numberOf r)
 -- ---- one packet after another
 
 -- the record after an addition: under a refusal it stays
-abbrev pub kept : Clock → Told Clock → Clock
-kept c (gives d) = d
-kept c (refuses n) = c
+abbrev pub recordAfter : Clock → Told Clock → Clock
+recordAfter c (gives d) = d
+recordAfter c (refuses n) = c
 
 -- the record after packets of these lengths
 unfoldable pub after : Clock → List ℕ → Clock
 after c [] = c
-after c (n ∷ ns) = after (kept c (addLength c n)) ns
+after c (n ∷ ns) = after (recordAfter c (addLength c n)) ns
