@@ -29,6 +29,7 @@ extern "C" {
         out_n: usize,
         written: *mut u64,
     ) -> u32;
+    fn embulgri_clock_add(reading: *mut f32, count: *mut u64, length: u64) -> u32;
 }
 
 pub fn checksum(bytes: &[u8]) -> u32 {
@@ -93,4 +94,9 @@ pub fn head_write(head: &Head, out: &mut [u8], written: &mut u64) -> u32 {
             written,
         )
     }
+}
+
+pub fn clock_add(reading: &mut f32, count: &mut u64, length: u64) -> u32 {
+    // SAFETY: `reading` and `count` are the two places that are written.
+    unsafe { embulgri_clock_add(reading, count, length) }
 }

@@ -1,8 +1,10 @@
 //! What the tests of the Embulgri library share. The library is called over its C interface and
-//! held to an independent implementation, [`ogg`], [`opus`] and [`head`], on inputs from a
-//! deterministic generator.
+//! held to an independent implementation, [`ogg`], [`opus`], [`head`] and [`clock`], on inputs from
+//! a deterministic generator.
 
 pub mod calls;
+pub mod clock;
+pub mod clock_inputs;
 pub mod damages;
 pub mod demands;
 pub mod ffi;
