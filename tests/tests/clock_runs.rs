@@ -6,6 +6,7 @@ use embulgri_tests::clock_inputs::{right_length, COUNTS, READINGS, WRONG_LENGTHS
 use embulgri_tests::inputs::Change;
 use embulgri_tests::random::Random;
 use embulgri_tests::tally::Tally;
+use std::ops::RangeInclusive;
 
 const CASES: usize = 2_000_000;
 const LEAST_CASES: usize = 1_000_000;
@@ -16,6 +17,9 @@ const EQUAL_TO: u64 = 134_217_728;
 
 /// The least count of a run of 120s at which the reading differs, and that reading.
 const FIRST_WRONG: (u64, f32) = (134_217_960, 134_217_952.0);
+
+/// The counts of a run of 120s where the reading is above the count.
+const AHEAD: RangeInclusive<u64> = 134_218_200..=1 << 31;
 
 /// The count of a run of 120s at which the reading reaches 2^31.
 const LAST_MOVE: u64 = 2_021_654_640;
@@ -35,13 +39,14 @@ fn a_run_of_120s_goes_wrong_and_stands_still_where_the_documents_say() {
     let mut clock = Clock::START;
     while clock.count <= 1 << 31 {
         clock = added(clock, 120, &mut tally);
-        let equal = clock.reading as u64 == clock.count;
         if clock.count < FIRST_WRONG.0 {
-            assert!(equal, "{clock:?}");
+            assert_eq!(clock.reading as u64, clock.count);
         }
         if clock.count == FIRST_WRONG.0 {
             assert_eq!(clock.reading, FIRST_WRONG.1);
         }
+        let ahead = clock.reading as u64 > clock.count;
+        assert_eq!(ahead, AHEAD.contains(&clock.count), "{clock:?}");
         assert_eq!(clock.reading == STILL, clock.count >= LAST_MOVE);
     }
     tally.print("a run of 120s on the clock");

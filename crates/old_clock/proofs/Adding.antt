@@ -40,7 +40,7 @@ module _ (c : Clock) (n : ℕ) where
   taken h e = rw (e, le-ltb mostCount (c .count + n) h)
 
 -- the record after one packet that is taken and those behind it
-pub after-taken : (c : Clock) (n : ℕ) (lengths : List ℕ) → c .count + n ≤ mostCount → rightLength n ≡ true
+after-taken : (c : Clock) (n : ℕ) (lengths : List ℕ) → c .count + n ≤ mostCount → rightLength n ≡ true
     → after c (n ∷ lengths) ≡ after (advanced c n) lengths
 unfolding after
 after-taken c n lengths room right = ap (λ (t : Told Clock). after (recordAfter c t) lengths) (taken c n room right)
