@@ -1,0 +1,3 @@
+pub mod Lead
+pub mod Tails
+pub mod Characters

@@ -1,0 +1,67 @@
+-- UTF-8 by RFC 3629, 3 (document 01, "Comment packet"): the length of a character is read from its lead byte's leading ones;
+-- shortest forms, no surrogates, none above 10FFFF. Assumes nothing.
+use Prim.Native.Nat.{ℕ, zero, suc, _+_, _-_, _*_, _%_, _^_}
+use mathlib.Core.Bool.{Bool, true, false, not, _&&_}
+use mathlib.Core.List.{[], _∷_}
+use lib.Count.{leadingZeros}
+use lib.Dec.{leb, eqb}
+use lib.ListN.{getD, drop}
+use Rattle.octets.specs.Pick.{pick}
+use Rattle.octets.specs.Octets.{Bytes}
+
+-- how many ones a byte begins with
+abbrev pub leadingOnes : ℕ → ℕ
+leadingOnes b = leadingZeros 8 (255 - b)
+
+-- how many bytes a character has, by the leading ones of its lead byte; 0 where no character begins so
+abbrev pub lengthBy : ℕ → ℕ
+lengthBy ones = pick (eqb ones 0) 1 (pick (eqb ones 2) 2 (pick (eqb ones 3) 3 (pick (eqb ones 4) 4 0)))
+
+unfoldable pub characterLength : ℕ → ℕ
+characterLength b = lengthBy (leadingOnes b)
+
+-- the bits of the character's number in its lead byte: those behind the leading ones and a zero
+unfoldable pub leadBits : ℕ → ℕ
+leadBits b = b % 2 ^ (7 - leadingOnes b)
+
+-- n bytes follow that begin with a one and a zero
+unfoldable pub tailsFollow : ℕ → Bytes → Bool
+tailsFollow zero s = true
+tailsFollow (suc n) [] = false
+tailsFollow (suc n) (b ∷ s) = (leb 0x80 b && leb b 0xBF) && tailsFollow n s
+
+-- the character's number: x, and six bits more from each of the n bytes that follow
+unfoldable pub numberWith : ℕ → ℕ → Bytes → ℕ
+numberWith x zero s = x
+numberWith x (suc n) [] = x
+numberWith x (suc n) (b ∷ s) = numberWith (x * 64 + b % 64) n s
+
+-- the least number that needs n bytes, since only shortest forms are right
+abbrev pub leastOf : ℕ → ℕ
+leastOf n = pick (eqb n 2) 0x80 (pick (eqb n 3) 0x800 (pick (eqb n 4) 0x10000 0))
+
+abbrev pub isSurrogate : ℕ → Bool
+isSurrogate x = leb 0xD800 x && leb x 0xDFFF
+
+unfoldable pub rightNumber : ℕ → ℕ → Bool
+rightNumber n x = leb (leastOf n) x && (leb x 0x10FFFF && not (isSurrogate x))
+
+-- a right character begins with the byte b and goes on in s
+unfoldable pub rightCharacter : ℕ → Bytes → Bool
+rightCharacter b s =
+    leb 1 (characterLength b)
+    && (tailsFollow (characterLength b - 1) s && rightNumber (characterLength b) (numberWith (leadBits b) (characterLength b - 1) s))
+
+-- the length of the right character at a place, 0 where none stands
+abbrev pub lengthAt : Bytes → ℕ → ℕ
+lengthAt s at = pick (rightCharacter (getD s at 0) (drop (at + 1) s)) (characterLength (getD s at 0)) 0
+
+-- right characters follow each other to the end, behind k bytes of one that was judged with its lead byte
+unfoldable pub utf8From : ℕ → Bytes → Bool
+utf8From k [] = true
+utf8From (suc k) (b ∷ s) = utf8From k s
+utf8From zero (b ∷ s) = rightCharacter b s && utf8From (characterLength b - 1) s
+
+-- the bytes are UTF-8
+unfoldable pub utf8 : Bytes → Bool
+utf8 s = utf8From 0 s
