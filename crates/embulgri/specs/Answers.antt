@@ -10,7 +10,7 @@ use mir.Syntax.{w16}
 use mir.Val.{toZ, ofZ}
 use Rattle.octets.specs.Pick.{pick}
 use Rattle.octets.specs.Octets.{Bytes}
-use Rattle.refusal.specs.Told.{Told, gives, refuses, retold}
+use Rattle.refusal.specs.Told.{Told, gives, refuses, retold, numberIn}
 use Rattle.ogg_crc.specs.Crc.{pageCrc}
 use Rattle.ogg_page.specs.declared.PageHeader.{PageHeader}
 use Rattle.ogg_page.specs.Page.{lacingOf, bodyOf}
@@ -22,10 +22,6 @@ use Rattle.opus_head.specs.Reading.{readHead}
 use Rattle.opus_head.specs.Writing as headWriting
 use Rattle.old_clock.specs.declared.Clock.{Clock}
 use Rattle.old_clock.specs.Clock.{addLength}
-
-abbrev pub numberIn : {A : Type 0} → Told A → ℕ
-numberIn (gives a) = 0
-numberIn (refuses n) = n
 
 -- an output at the end: what is given, or what it held
 abbrev pub stored : {A : Type 0} → Told A → A → A

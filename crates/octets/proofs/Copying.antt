@@ -1,13 +1,13 @@
 -- Laws of `copied`: when it is a paste and when nothing, its length, and copies that follow each other. Assumes nothing.
-use mathlib.Core.Path.{_≡_, refl, _∙_}
+use mathlib.Core.Path.{_≡_, refl, sym, ap, ap₂, _∙_}
 use mathlib.Core.Bool.{Bool, true, false}
-use mathlib.Core.List.{_++_}
+use mathlib.Core.List.{_++_, append-assoc}
 use Prim.Native.Nat.{ℕ, _+_, _≤_, _<_}
 use native.Mathlib.Nat.{le-refl}
 use native.Mathlib.Omega.{arith}
 use borrow.Author.Tests.{le-leb, lt-leb, leb-true}
-use lib.ListN.{length, drop, length-append, length-drop}
-use lib.Seq.{paste, length-paste, take-length, take-at, drop-at, drop-drop}
+use lib.ListN.{length, take, drop, length-append, length-drop}
+use lib.Seq.{paste, length-paste, take-paste, drop-paste, take-length, take-at, drop-at, drop-drop}
 use lib.Dec.{leb}
 use Rattle.octets.specs.Pick.{pick}
 use Rattle.octets.specs.Octets.{Bytes, copied}
@@ -38,3 +38,25 @@ copied-next d a s h =
     (simp (drop-at a r (length a) refl, drop-drop (length s) (length a) d, length-append a s)) in
     copied-fits (a ++ r) (length a) s (omega arith)
     ∙ simp (take-at a r (length a) refl, take-length s, ← drop-drop (length s) (length a) (a ++ r), past)
+
+-- a is copied to a place, and s right behind it
+pub copied-append : (d : Bytes) (at : ℕ) (a s : Bytes) (k : ℕ) → k ≡ at + length a → k + length s ≤ length d
+    → copied (copied d at a) k s ≡ copied d at (a ++ s)
+copied-append d at a s k e h =
+    let p : Bytes = paste d at a (length a) in
+    let fits : at + length a ≤ length d = omega arith in
+    let size : length p ≡ length d = length-paste d at a (length a) fits (le-refl (length a)) in
+    let both : length (a ++ s) ≡ length a + length s = length-append a s in
+    let place : at + length a + length s ≡ at + length (a ++ s) = omega (arith, both) in
+    let front : take k p ≡ take at d ++ a =
+    (rw e (take-paste d at a (length a) (omega arith) (le-refl (length a)) ∙ ap (λ (l : Bytes). take at d ++ l) (take-length a))) in
+    let behind : drop (k + length s) p ≡ drop (at + length (a ++ s)) d =
+    (sym (drop-drop (length s) k p)
+    ∙ ap (drop (length s)) (rw e (drop-paste d at a (length a) (omega arith) (le-refl (length a))))
+    ∙ drop-drop (length s) (at + length a) d
+    ∙ ap (λ (m : ℕ). drop m d) place) in
+    ap (λ (b : Bytes). copied b k s) (copied-fits d at a fits)
+    ∙ copied-fits p k s (omega arith)
+    ∙ ap₂ (λ (x y : Bytes). x ++ take (length s) s ++ y) front behind
+    ∙ (simp (take-length s, take-length (a ++ s), append-assoc))
+    ∙ sym (copied-fits d at (a ++ s) (omega (arith, both)))

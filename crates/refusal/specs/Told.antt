@@ -18,3 +18,8 @@ decided (some r) a = refuses (numberOf r)
 abbrev pub retold : {A B : Type 0} → (A → B) → Told A → Told B
 retold f (gives a) = gives (f a)
 retold f (refuses n) = refuses n
+
+-- the number of a refusal, 0 for none
+abbrev pub numberIn : {A : Type 0} → Told A → ℕ
+numberIn (gives a) = 0
+numberIn (refuses n) = n

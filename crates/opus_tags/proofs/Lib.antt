@@ -1,0 +1,9 @@
+pub mod Fitting
+pub mod Judging
+pub mod Walking
+pub mod Counting
+pub mod Checking
+pub mod Finding
+pub mod Lengths
+pub mod Laying
+pub mod Taking

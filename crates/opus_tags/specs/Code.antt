@@ -1,0 +1,73 @@
+-- What the private functions answer, in the code's words: comments one after the other, with the gains that were seen so far.
+-- Assumes nothing.
+use Prim.Native.Nat.{ℕ, zero, suc, _+_}
+use mathlib.Core.Bool.{Bool, true, false, not, _&&_, _||_}
+use mathlib.Core.List.{List, [], _∷_}
+use lib.Dec.{leb, eqb}
+use lib.ListN.{length}
+use Rattle.octets.specs.Pick.{pick}
+use Rattle.octets.specs.Octets.{Bytes, begins, total}
+use Rattle.utf8.specs.Characters.{utf8}
+use Rattle.opus_comment.specs.Names.{rightComment, isNamed}
+use Rattle.opus_tags.specs.declared.Gains.{Gains}
+use Rattle.opus_tags.specs.declared.Gains.the-variants.{Wrong as WrongComment, Seen}
+use Rattle.opus_tags.specs.declared.Walk.{Walk}
+use Rattle.opus_tags.specs.declared.Walk.the-variants.{Wrong, At}
+use Rattle.opus_tags.specs.Layout.{signature, partAt, nextPlace, fitsAt, bytesOf, vendorPart, firstPlace}
+use Rattle.opus_tags.specs.Right.{trackGain, albumGain, rightTags}
+use Rattle.opus_tags.specs.Writing.{cutBy, given, packetOf}
+
+-- the comment c is right, and no gain that was seen before
+abbrev pub goesOn : Bytes → Bool → Bool → Bool
+goesOn c track album =
+    rightComment c && (not (track && isNamed trackGain c) && not (album && isNamed albumGain c))
+
+unfoldable pub judged : Bytes → Bool → Bool → Gains
+judged c track album = pick (goesOn c track album) (Seen (track || isNamed trackGain c) (album || isNamed albumGain c)) WrongComment
+
+-- the comments are right where these gains were seen before
+unfoldable pub rightFrom : Bool → Bool → List Bytes → Bool
+rightFrom track album [] = true
+rightFrom track album (c ∷ cs) = goesOn c track album && rightFrom (track || isNamed trackGain c) (album || isNamed albumGain c) cs
+
+-- ---- reading: a walk over the comments
+
+-- one comment on
+abbrev pub onward : Bytes → ℕ → Gains → Walk
+onward b at WrongComment = Wrong
+onward b at (Seen track album) = At (nextPlace b at) track album
+
+unfoldable pub stepped : Bytes → Walk → Walk
+stepped b Wrong = Wrong
+stepped b (At at track album) = pick (fitsAt b at) (onward b at (judged (bytesOf b (partAt b at)) track album)) Wrong
+
+unfoldable pub walked : Bytes → ℕ → Walk → Walk
+walked b zero w = w
+walked b (suc n) w = walked b n (stepped b w)
+
+-- at the first comment, where all before it is right
+unfoldable pub startsRight : Bytes → Bool
+startsRight b =
+    begins signature b && (fitsAt b 8 && (utf8 (bytesOf b (vendorPart b)) && leb (firstPlace b) (length b)))
+
+unfoldable pub begun : Bytes → Walk
+begun b = pick (startsRight b) (At (firstPlace b) false false) Wrong
+
+abbrev pub isRight : Walk → Bool
+isRight Wrong = false
+isRight (At at track album) = true
+
+abbrev pub placeIn : Walk → ℕ
+placeIn Wrong = 0
+placeIn (At at track album) = at
+
+-- ---- writing
+
+-- the lengths sum to the text, and the comments are right
+unfoldable pub rightLengths : Bytes → List ℕ → Bool
+rightLengths text ns = eqb (total ns) (length text) && rightFrom false false (cutBy ns text)
+
+-- a packet of these fields is one that the writer takes
+unfoldable pub rightFields : Bytes → Bytes → List ℕ → Bool
+rightFields vendor text ns =
+    eqb (total ns) (length text) && (leb (length (packetOf vendor text ns)) 61440 && rightTags (given vendor text ns))

@@ -1,0 +1,5 @@
+pub mod Layout
+pub mod Right
+pub mod Reading
+pub mod Writing
+pub mod Code
