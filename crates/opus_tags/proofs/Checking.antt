@@ -1,5 +1,5 @@
 -- The walk over all comments decides whether the bytes are a comment header, and finds comment i on its way. Assumes nothing.
-use mathlib.Core.Path.{_≡_, refl, sym, ap, _∙_, subst}
+use mathlib.Core.Path.{_≡_, refl, sym, ap, _∙_}
 use mathlib.Core.Bool.{Bool, true, false, _&&_, _||_}
 use Prim.Native.Nat.{ℕ, zero, suc, _+_, _-_, _≤_, _<_}
 use native.Mathlib.Nat.{zero-add, suc-add}
@@ -14,7 +14,7 @@ use Rattle.opus_comment.specs.Names.{isNamed}
 use Rattle.opus_tags.specs.declared.Gains.the-variants.{Wrong as WrongComment, Seen}
 use Rattle.opus_tags.specs.declared.Walk.{Walk}
 use Rattle.opus_tags.specs.declared.Walk.the-variants.{Wrong, At}
-use Rattle.opus_tags.specs.Layout.{signature, partAt, nextPlace, fitsAt, bytesOf, allFit, textsFrom, placeAfter, vendorPart, countOf, firstPlace, commentPlace, isLaidOut, tagsOf}
+use Rattle.opus_tags.specs.Layout.{signature, partAt, nextPlace, fitsAt, bytesOf, allFit, textsFrom, placeAfter, vendorPart, countOf, firstPlace, isLaidOut, tagsOf}
 use Rattle.opus_tags.specs.Right.{trackGain, albumGain, rightComments, rightTags, isTags}
 use Rattle.opus_tags.specs.Code.{goesOn, judged, rightFrom, onward, stepped, walked, startsRight, begun, isRight, placeIn}
 use Rattle.opus_tags.proofs.Walking.{walked-wrong}

@@ -1,19 +1,17 @@
 -- Laws of what is read and found in a packet. Assumes nothing.
 use mathlib.Core.Path.{_≡_, refl, sym, ap, _∙_}
 use mathlib.Core.Bool.{Bool, true, false, _&&_}
-use mathlib.Core.List.{List, [], _∷_, _++_}
 use mathlib.Core.Option.{Option, none, some}
-use Prim.Native.Nat.{ℕ, zero, suc, _+_, _-_, _≤_, _<_, min}
+use Prim.Native.Nat.{ℕ, zero, suc, _+_, _-_, _≤_, _<_}
 use native.Mathlib.Omega.{arith}
 use borrow.Author.Tests.{le-leb, lt-leb}
 use lib.Dec.{leb}
-use lib.IntN.{ℤ}
 use lib.ListN.{length}
 use Rattle.octets.specs.Octets.{Bytes, begins}
 use Rattle.octets.proofs.Tests.{both}
 use Rattle.refusal.specs.declared.Refusal.{Refusal}
 use Rattle.refusal.specs.Checks.{firstOf, orElse}
-use Rattle.refusal.specs.Told.{Told, gives, refuses, decided, retold}
+use Rattle.refusal.specs.Told.{gives, refuses, decided, retold}
 use Rattle.refusal.proofs.Checks.{first-of-append, no-refusal}
 use Rattle.opus_comment.specs.Names.{valueOf}
 use Rattle.opus_comment.specs.Gain.{gainOf, gainChecks, commentGain}
@@ -42,7 +40,7 @@ module _ (b : Bytes) (wrong : isTags b ≡ false) where
 
 -- ---- a packet that is one
 
-length-texts : (b : Bytes) (n at : ℕ) → length (textsFrom b n at) ≡ n
+pub length-texts : (b : Bytes) (n at : ℕ) → length (textsFrom b n at) ≡ n
 unfolding textsFrom
 length-texts b zero at = refl
 length-texts b (suc n) at = ap suc (length-texts b n (nextPlace b at))

@@ -1,5 +1,5 @@
 -- Laws of judging one comment. Assumes nothing.
-use mathlib.Core.Path.{_≡_, refl}
+use mathlib.Core.Path.{_≡_}
 use mathlib.Core.Bool.{Bool, true, false, _&&_, _||_}
 use Rattle.octets.specs.Octets.{Bytes}
 use Rattle.opus_comment.specs.Names.{rightComment, isNamed}

@@ -7,3 +7,6 @@ pub mod Finding
 pub mod Lengths
 pub mod Laying
 pub mod Taking
+pub mod Places
+pub mod Together
+pub mod RoundTrip

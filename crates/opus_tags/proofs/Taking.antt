@@ -1,8 +1,8 @@
 -- Which fields the writer takes, and what it tells and leaves. Assumes nothing.
-use mathlib.Core.Path.{_≡_, refl, sym, ap, _∙_}
+use mathlib.Core.Path.{_≡_, refl, sym, ap}
 use mathlib.Core.Bool.{Bool, true, false, _&&_}
 use mathlib.Core.List.{List}
-use mathlib.Core.Option.{Option, none, some}
+use mathlib.Core.Option.{none, some}
 use Prim.Native.Nat.{ℕ, _+_, _*_, _≤_, _<_}
 use native.Mathlib.Omega.{arith}
 use borrow.Author.Tests.{lt-ltb, le-ltb, le-leb, lt-leb, leb-true, leb-false, eqb-true}
@@ -11,7 +11,6 @@ use lib.ListN.{length}
 use Rattle.octets.specs.Octets.{Bytes, total, copied}
 use Rattle.octets.proofs.Tests.{both}
 use Rattle.utf8.specs.Characters.{utf8}
-use Rattle.refusal.specs.declared.Refusal.{Refusal}
 use Rattle.refusal.specs.declared.Refusal.the-variants.{ShortOutput, UnfitFields}
 use Rattle.refusal.specs.Checks.{firstOf}
 use Rattle.refusal.specs.Told.{gives}

@@ -3,3 +3,4 @@ pub mod Right
 pub mod Reading
 pub mod Writing
 pub mod Code
+pub mod Statements

@@ -1,14 +1,12 @@
 -- `opus_tags::begin` meets its contract. Assumes nothing.
-use mathlib.Core.Path.{_≡_, sym, ap, _∙_}
-use mathlib.Core.Bool.{true, false}
+use mathlib.Core.Path.{sym, ap, _∙_}
+use mathlib.Core.Bool.{false}
 use borrow.Author.Needs.{needs}
 use denote.Ref.{now}
 use native.Mathlib.Omega.{arith}
 use Prim.Native.Nat.{ℕ}
 use Rattle.octets.proofs.Tests.{failed, held}
-use Rattle.utf8.specs.Characters.{utf8}
 use Rattle.opus_tags.specs.declared.Walk.the-variants.{At}
-use Rattle.opus_tags.specs.Layout.{bytesOf, vendorPart}
 use Rattle.opus_tags.proofs.Checking.{no-signature, no-vendor, no-characters, no-count, at-first}
 use Rattle.opus_tags.proofs.begin.Statement.{statement}
 use Rattle.opus_tags.proofs.begin.Tie as tie

@@ -1,9 +1,8 @@
 -- `opus_tags::comment_number` meets its contract. Assumes nothing.
-use mathlib.Core.Path.{_≡_, sym, ap, _∙_}
+use mathlib.Core.Path.{sym, ap, _∙_}
 use borrow.Author.Needs.{needs}
 use Rattle.refusal.specs.Told.{Told, numberIn}
 use Rattle.opus_tags.specs.declared.Part.{Part}
-use Rattle.opus_tags.specs.declared.PartRead.{PartRead}
 use Rattle.opus_tags.specs.Reading.{toldPart}
 use Rattle.opus_tags.proofs.comment_number.Statement.{statement}
 use Rattle.opus_tags.proofs.comment_number.Tie as tie

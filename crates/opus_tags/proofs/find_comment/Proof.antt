@@ -1,13 +1,11 @@
 -- `opus_tags::find_comment` meets its contract. Assumes nothing.
 use mathlib.Core.Path.{_≡_, sym, ap, _∙_}
-use Prim.Native.Nat.{ℕ, _≤_}
 use native.Mathlib.Omega.{arith}
 use borrow.Author.Needs.{needs}
 use denote.Ref.{now}
 use Rattle.octets.proofs.Tests.{failed, held}
 use Rattle.opus_tags.specs.Right.{isTags}
 use Rattle.opus_tags.specs.Reading.{findText, findComment}
-use Rattle.opus_tags.specs.Code.{isRight}
 use Rattle.opus_tags.proofs.Finding.{not-found, no-such-comment, end-decides, comment-found}
 use Rattle.opus_tags.proofs.find_comment.Statement.{statement}
 use Rattle.opus_tags.proofs.find_comment.Tie as tie

@@ -1,5 +1,5 @@
 -- `opus_tags::find_vendor` meets its contract. Assumes nothing.
-use mathlib.Core.Path.{_≡_, sym, _∙_}
+use mathlib.Core.Path.{sym, _∙_}
 use borrow.Author.Needs.{needs}
 use denote.Ref.{now}
 use Rattle.octets.proofs.Tests.{failed, held}

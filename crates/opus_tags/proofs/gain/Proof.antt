@@ -1,11 +1,9 @@
 -- `opus_tags::gain` meets its contract. Assumes nothing.
-use mathlib.Core.Path.{_≡_, sym, ap, _∙_}
+use mathlib.Core.Path.{sym, ap, _∙_}
 use borrow.Author.Needs.{needs}
 use denote.Ref.{now}
 use Rattle.refusal.specs.Numbers.{numberOf}
-use Rattle.octets.specs.Octets.{Bytes}
 use Rattle.opus_comment.specs.Gain.{commentGain}
-use Rattle.opus_tags.specs.declared.PartRead.{PartRead}
 use Rattle.opus_tags.specs.Reading.{toldPart}
 use Rattle.opus_tags.proofs.Finding.{gain-refused, gain-found}
 use Rattle.opus_tags.proofs.gain.Statement.{statement}

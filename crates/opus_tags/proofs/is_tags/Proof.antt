@@ -1,5 +1,5 @@
 -- `opus_tags::is_tags` meets its contract. Assumes nothing.
-use mathlib.Core.Path.{_≡_, ap, ap₂, _∙_}
+use mathlib.Core.Path.{ap, ap₂, _∙_}
 use borrow.Author.Needs.{needs}
 use denote.Ref.{now}
 use Rattle.opus_tags.specs.declared.Walk.{Walk}

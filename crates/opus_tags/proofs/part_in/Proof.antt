@@ -1,5 +1,5 @@
 -- `opus_tags::part_in` meets its contract. Assumes nothing.
-use mathlib.Core.Path.{_≡_, sym, ap, _∙_}
+use mathlib.Core.Path.{sym, ap, _∙_}
 use borrow.Author.Needs.{needs}
 use denote.Ref.{now}
 use Rattle.opus_tags.specs.declared.PartRead.{PartRead}

@@ -1,5 +1,4 @@
 -- `opus_tags::put_tags` meets its contract: the copies stand one behind the other. Assumes nothing.
-use mathlib.Core.Path.{_≡_}
 use borrow.Author.Needs.{needs}
 use denote.Ref.{now}
 use Rattle.opus_tags.proofs.Laying.{packet-copied}

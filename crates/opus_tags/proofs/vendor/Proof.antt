@@ -1,5 +1,5 @@
 -- `opus_tags::vendor` meets its contract. Assumes nothing.
-use mathlib.Core.Path.{_≡_, ap, _∙_}
+use mathlib.Core.Path.{ap, _∙_}
 use borrow.Author.Needs.{needs}
 use denote.Ref.{now}
 use Rattle.opus_tags.specs.Reading.{partIn}

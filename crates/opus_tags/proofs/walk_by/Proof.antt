@@ -4,7 +4,6 @@ use Prim.Native.Nat.{_+_, _-_, _≤_}
 use native.Mathlib.Omega.{arith}
 use borrow.Author.Needs.{needs}
 use denote.Ref.{now}
-use Rattle.opus_tags.specs.declared.Walk.{Walk}
 use Rattle.opus_tags.specs.declared.Walk.the-variants.{At}
 use Rattle.opus_tags.specs.Code.{walked}
 use Rattle.opus_tags.proofs.Walking.{walked-wrong, walk-begin, walk-more, walk-done}
