@@ -1,0 +1,5 @@
+pub mod Clear
+pub mod Passed
+pub mod Pieces
+pub mod Carry
+pub mod Step
