@@ -6,3 +6,4 @@ pub mod Step
 pub mod Meeting
 pub mod Joining
 pub mod Runs
+pub mod Segments

@@ -69,7 +69,7 @@ first-fits n m (v ∷ l) body e =
 
 -- ---- the rest
 
-rest-size : (n m : ℕ) (l body : Bytes) → length (cutFrom m l body .rest) ≤ unfinishedFrom (n + m) l
+pub rest-size : (n m : ℕ) (l body : Bytes) → length (cutFrom m l body .rest) ≤ unfinishedFrom (n + m) l
 unfolding cutFrom unfinishedFrom
 rest-size n m [] body = let j : length (take m body) ≤ m = take-le m body in omega arith
 rest-size n m (v ∷ l) body = by (ltb v 255) (rest-size 0 0 l (drop (m + v) body)) (subst (λ (z : ℕ). length (cutFrom (m + v) l body .rest) ≤ unfinishedFrom z l) (sym (add-assoc n m v)) (rest-size n (m + v) l body))
@@ -111,7 +111,7 @@ abbrev pub nonEmpty : List Bytes → Bool
 nonEmpty [] = false
 nonEmpty (b ∷ bs) = true
 
-whole-ends : (n : ℕ) (l body : Bytes) → nonEmpty (wholeFrom n l body) ≡ ends l
+pub whole-ends : (n : ℕ) (l body : Bytes) → nonEmpty (wholeFrom n l body) ≡ ends l
 unfolding cutFrom ends
 whole-ends n [] body = refl
 whole-ends n (v ∷ l) body = by (ltb v 255) (whole-ends (n + v) l body)
