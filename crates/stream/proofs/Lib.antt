@@ -7,3 +7,6 @@ pub mod Meeting
 pub mod Joining
 pub mod Runs
 pub mod Segments
+pub mod AudioRun
+pub mod HeaderRun
+pub mod Theorem1
