@@ -24,7 +24,7 @@ use Rattle.stream.specs.Packets.{begun, join, seen, audioPackets, length
 use Rattle.stream.specs.Rules.{onePiece, wrongShape, firstPacket, startOn, nextOn, verdict, after}
 use Rattle.stream.specs.Feed.{entries, entriesOn, countsOn, skipOn}
 use Rattle.stream.specs.Stream.{segments, segmentsOf, packetsFrom, leftFrom, openFrom, openAfter, leftAfter, carriedOf, headOf, afterComment, audioPages, endedAfter, audioPhase, commentPhase, phaseOf, serialOf, Mark, marksFrom, marks, positionFrom, decodedIn, Listing, silent, audioListings, commentListings, listings}
-use Rattle.stream.specs.Feedings.{Shown, bytesIn, bytesOf}
+use Rattle.stream.specs.Feedings.{Shown, bytesIn, bytesOf, stood}
 use Rattle.stream.proofs.Passed.{Shaped, shaped}
 use Rattle.stream.proofs.Pieces.{page-completes}
 use Rattle.stream.proofs.Segments.{Begun, begun-left, carried-open, joins}
@@ -106,14 +106,15 @@ module _ (R : Readings) (head : Head) (b : Bytes) (o : Bool) (h : Bytes) (serial
 
 -- ---- all pages after the first
 
--- where the audio pages begin
-pub record Arrived (R : Readings) (head : Head) (serial : ℕ) (xs : List Shown) : Type 0 where
+-- where the audio pages begin; `end` is the state after them
+pub record Arrived (R : Readings) (head : Head) (serial : ℕ) (end : State) (xs : List Shown) : Type 0 where
   pub next : ℕ
-  pub small : next < 2 ^ 32
   pub lists : Lists R (audio false nothing Unset serial next head) (head .preskip) xs
+  pub ends : stood xs ≡ true → afterAll R (audio false nothing Unset serial next head) (bytesOf xs) ≡ end
 
-pub none-arrived : (R : Readings) (head : Head) (serial : ℕ) → Arrived R head serial []
-none-arrived R head serial = record { next = 0; small = omega arith; lists = tt }
+pub none-arrived : (R : Readings) (head : Head) (serial : ℕ) (end : State) → Arrived R head serial end []
+unfolding stood
+none-arrived R head serial end = record { next = 0; lists = tt; ends = λ t. absurd (false≢true t) }
 
 abbrev id-bytes : Bytes → Bytes
 id-bytes b = b
@@ -122,7 +123,7 @@ abbrev laterMarks : Readings → Head → List Bytes → List Mark
 laterMarks R head bs = marksFrom R (head .streams) [] (afterComment id-bytes bs)
 
 pub record Comments (R : Readings) (head : Head) (xs : List Shown) (o : Bool) (h : Bytes) (serial next : ℕ) : Type 0 where
-  pub arrives : Arrived R head serial (afterComment bytesIn xs)
+  pub arrives : Arrived R head serial (afterAll R (commenting Comment (carriedOf o h) serial next head) (bytesOf xs)) (afterComment bytesIn xs)
   pub state : afterAll R (commenting Comment (carriedOf o h) serial next head) (bytesOf xs)
       ≡ record {
         phase = commentPhase (bytesOf xs);
@@ -167,7 +168,7 @@ module _ (R : Readings) (head : Head) (x : Shown) (xs : List Shown) (o : Bool) (
   }
 
   record More (t : Bool) : Type 0 where
-    arrives : Arrived R head serial (pick t xs (afterComment bytesIn xs))
+    arrives : Arrived R head serial (afterAll R (after R this (x .bytes)) bs) (pick t xs (afterComment bytesIn xs))
     state : afterAll R (after R this (x .bytes)) bs
         ≡ end (pick t (audioPhase (endedAfter false bs)) (commentPhase bs)) o-next h-next (marksFrom R (head .streams) [] (pick t bs (afterComment id-bytes bs))) ((next + suc (length xs)) % 2 ^ 32)
     skips : skipAll R (after R this (x .bytes)) (skipIn R (head .preskip) this (x .bytes)) bs ≡ head .preskip - decodedIn (marksFrom R (head .streams) [] (pick t bs (afterComment id-bytes bs)))
@@ -197,7 +198,7 @@ module _ (R : Readings) (head : Head) (x : Shown) (xs : List Shown) (o : Bool) (
       let run : Sound R head xs false false [] Unset serial due 0 =
       audio-run R head xs false false [] Unset serial due 0 (λ w. refl) (omega arith) (subst (λ (j : ℕ). Lists R sound j xs) (sym (sub-zero (head .preskip))) lists) in
       record {
-        arrives = record { next = due; small = omega arith; lists = lists };
+        arrives = record { next = due; lists = lists; ends = λ t. ap (λ (s : State). afterAll R s bs) (sym same) };
         state = ap (λ (s : State). afterAll R s bs) same ∙ run .state
             ∙ ap (end (audioPhase (endedAfter false bs)) false [] (marksFrom R (head .streams) [] bs)) (next-page next (length xs))
             ∙ ap₂ (λ (w : Bool) (k : Bytes). end (audioPhase (endedAfter false bs)) w k (marksFrom R (head .streams) [] bs) ((next + suc (length xs)) % 2 ^ 32)) (sym closed) (sym empty);
@@ -208,7 +209,7 @@ module _ (R : Readings) (head : Head) (x : Shown) (xs : List Shown) (o : Bool) (
 
   going : completes (pageOf (x .bytes)) ≡ false → Comments R head xs o-next h-next serial due → More false
   going e k = record {
-    arrives = k .arrives;
+    arrives = subst (λ (s : State). Arrived R head serial (afterAll R s bs) (afterComment bytesIn xs)) (sym (then-after false e)) (k .arrives);
     state = ap (λ (s : State). afterAll R s bs) (then-after false e) ∙ k .state
         ∙ ap (end (commentPhase bs) o-next h-next (laterMarks R head bs)) (next-page next (length xs));
     skips = skips-on false e ∙ k .skips;
@@ -226,7 +227,7 @@ unfolding afterAll skipAll commentPhase openAfter leftAfter afterComment marksFr
 comment-run R head [] o h serial next k small f =
     let z : (next + 0) % 2 ^ 32 ≡ next = omega arith in
     record {
-      arrives = none-arrived R head serial;
+      arrives = none-arrived R head serial (commenting Comment (carriedOf o h) serial next head);
       state = ap (λ (q : ℕ). commenting Comment (carriedOf o h) serial q head) (sym z);
       skips = sym (sub-zero (head .preskip));
       listings = refl;

@@ -10,3 +10,4 @@ pub mod Segments
 pub mod AudioRun
 pub mod HeaderRun
 pub mod Theorem1
+pub mod Theorem3

@@ -18,7 +18,7 @@ use Rattle.stream.specs.State.{Carried, nothing, State, expecting}
 use Rattle.stream.specs.Packets.{seen, audioPackets, lengthsOf}
 use Rattle.stream.specs.Rules.{firstPacket, nextOn, verdict, after}
 use Rattle.stream.specs.Feed.{Reader, carriedIn, start, entries, entriesOn, countsOn, skipOn}
-use Rattle.stream.specs.Stream.{segmentsOf, packetsFrom, leftFrom, openFrom, openAfter, leftAfter, carriedOf, headOf, audioPages, phaseOf, serialOf, marksFrom, marks, positionFrom, decodedIn, Listing, silent, listings}
+use Rattle.stream.specs.Stream.{segmentsOf, packetsFrom, leftFrom, openFrom, openAfter, leftAfter, carriedOf, headOf, afterComment, audioPages, phaseOf, serialOf, marksFrom, marks, positionFrom, decodedIn, Listing, silent, listings}
 use Rattle.stream.specs.Feedings.{Feeding, finally, carryLeft, HandedOn, Shown, stream, bytesIn, bytesOf}
 use Rattle.stream.specs.Statements.{viewOf, Determined, StreamState}
 use Rattle.stream.proofs.Segments.{begun-left, joins}
@@ -76,14 +76,14 @@ end R bs q = record {
 }
 
 pub record Whole (R : Readings) (S : List Shown) : Type 0 where
-  pub arrives : Arrived R (headOf R (bytesOf S)) (serialOf (bytesOf S)) (audioPages bytesIn S)
+  pub arrives : Arrived R (headOf R (bytesOf S)) (serialOf (bytesOf S)) (afterAll R fresh (bytesOf S)) (audioPages bytesIn S)
   pub state : afterAll R fresh (bytesOf S) ≡ end R (bytesOf S) (length S % 2 ^ 32)
   pub skips : skipAll R fresh 0 (bytesOf S) ≡ headOf R (bytesOf S) .preskip - decodedIn (marks R (bytesOf S))
   pub listings : map (λ (x : Shown). x .listing) S ≡ listings R (bytesOf S)
 
 whole : (R : Readings) (S : List Shown) → Lists R fresh 0 S → Whole R S
 unfolding afterAll skipAll phaseOf openAfter leftAfter audioPages marks marksFrom decodedIn serialOf headOf listings
-whole R [] f = record { arrives = none-arrived R (headOf R []) 0; state = refl; skips = refl; listings = refl }
+whole R [] f = record { arrives = none-arrived R (headOf R []) 0 fresh; state = refl; skips = refl; listings = refl }
 whole R (x ∷ xs) f =
     let b : Bytes = x .bytes in
     let bs : List Bytes = bytesOf xs in
@@ -100,7 +100,7 @@ whole R (x ∷ xs) f =
     comment-run R head xs o h (p .header .serial) due (begun-left false [] (segmentsOf p) (λ w. refl)) (omega arith) later in
     let count : (due + length xs) % 2 ^ 32 ≡ suc (length xs) % 2 ^ 32 = next-page 0 (length xs) ∙ ap (λ (n : ℕ). n % 2 ^ 32) (zero-add (suc (length xs))) in
     record {
-      arrives = k .arrives;
+      arrives = subst (λ (s : State). Arrived R head (p .header .serial) (afterAll R s bs) (afterComment bytesIn xs)) (sym same) (k .arrives);
       state = ap (λ (s : State). afterAll R s bs) same ∙ k .state ∙ ap (end R (b ∷ bs)) count;
       skips = ap₂ (λ (s : State) (j : ℕ). skipAll R s j bs) same skip ∙ k .skips;
       listings = ap₂ (λ (a : Listing) (l : List Listing). a ∷ l) (f .1 ∙ first-silent R b bs) (k .listings);
