@@ -11,3 +11,4 @@ pub mod AudioRun
 pub mod HeaderRun
 pub mod Theorem1
 pub mod Theorem3
+pub mod Shift
