@@ -134,7 +134,7 @@ first-room : (last : Bool) (g d : ℕ) → tooSmall Unset last g d ≡ false →
 first-room true g d e f = absurd (true≢false f)
 first-room false g d e f = ltb-false g d e
 
-fits-placed : (position : Position) (last : Bool) (g d : ℕ) → tooSmall position last g d ≡ false → Fits g d (placed position last g d)
+pub fits-placed : (position : Position) (last : Bool) (g d : ℕ) → tooSmall position last g d ≡ false → Fits g d (placed position last g d)
 fits-placed Unset last g d e = rw (placed-unset last g d (first-room last g d e)) (fits-first g d)
 fits-placed Joined last g d e = rw (placed-joined last g d (first-room last g d e)) (fits-first g d)
 fits-placed (At p) true g d e = by (ltb g (p + d)) refl

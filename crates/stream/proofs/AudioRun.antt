@@ -81,19 +81,19 @@ no-samples R n h p e = ap (λ (ws : List Bytes). total (map (R .samplesOf n) ws)
 pub less : (k n d : ℕ) → k - n - d ≡ k - (n + d)
 less k n d = omega arith
 
-kept-same : (k n : ℕ) (m : Mark) (at d : ℕ) → keptOf (k - n) (m .last) (m .granule) at d ≡ tally (sampleKept k n m at) d
+pub kept-same : (k n : ℕ) (m : Mark) (at d : ℕ) → keptOf (k - n) (m .last) (m .granule) at d ≡ tally (sampleKept k n m at) d
 unfolding keptOf
 kept-same k n m at d =
     tally-same (isKept (k - n) (m .last) (m .granule) at) (sampleKept k n m at)
     (λ (j : ℕ). ap (λ (t : Bool). not (isTrimmed (m .last) (m .granule) at j) && not t) (sym (skip-after k n j))) d
 
-skipped-same : (k n : ℕ) (m : Mark) (at d : ℕ) → skippedOf (k - n) (m .last) (m .granule) at d ≡ tally (sampleSkipped k n m at) d
+pub skipped-same : (k n : ℕ) (m : Mark) (at d : ℕ) → skippedOf (k - n) (m .last) (m .granule) at d ≡ tally (sampleSkipped k n m at) d
 unfolding skippedOf
 skipped-same k n m at d =
     tally-same (isSkipped (k - n) (m .last) (m .granule) at) (sampleSkipped k n m at)
     (λ (j : ℕ). ap (λ (t : Bool). not (isTrimmed (m .last) (m .granule) at j) && t) (sym (skip-after k n j))) d
 
-trimmed-same : (n : ℕ) (m : Mark) (at d : ℕ) → trimmedOf (m .last) (m .granule) at d ≡ tally (sampleTrimmed n m at) d
+pub trimmed-same : (n : ℕ) (m : Mark) (at d : ℕ) → trimmedOf (m .last) (m .granule) at d ≡ tally (sampleTrimmed n m at) d
 unfolding trimmedOf
 trimmed-same n m at d = refl
 
@@ -116,11 +116,11 @@ module _ (R : Readings) (head : Head) (b : Bytes) (o : Bool) (h : Bytes) (positi
   abbrev here : List ℕ
   here = lengthsFrom R (head .streams) h page
 
-  here-lengths : lengthsOf R now (seen now page) ≡ here
+  pub here-lengths : lengthsOf R now (seen now page) ≡ here
   unfolding lengthsOf audioPackets seen
   here-lengths = ap (map (R .samplesOf (head .streams))) (joins o h page begun .packets)
 
-  here-completes : seen now page .completes ≡ completes page
+  pub here-completes : seen now page .completes ≡ completes page
   unfolding seen
   here-completes = page-completes (carriedOf o h) page
 

@@ -116,7 +116,7 @@ pub none-arrived : (R : Readings) (head : Head) (serial : ℕ) (end : State) →
 unfolding stood
 none-arrived R head serial end = record { next = 0; lists = tt; ends = λ t. absurd (false≢true t) }
 
-abbrev id-bytes : Bytes → Bytes
+abbrev pub id-bytes : Bytes → Bytes
 id-bytes b = b
 
 abbrev laterMarks : Readings → Head → List Bytes → List Mark

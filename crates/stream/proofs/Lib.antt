@@ -12,3 +12,5 @@ pub mod HeaderRun
 pub mod Theorem1
 pub mod Theorem3
 pub mod Shift
+pub mod MarkCounts
+pub mod Theorem4
