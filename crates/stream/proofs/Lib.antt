@@ -14,3 +14,5 @@ pub mod Theorem3
 pub mod Shift
 pub mod MarkCounts
 pub mod Theorem4
+pub mod Real
+pub mod Lists

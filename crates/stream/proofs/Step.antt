@@ -139,7 +139,7 @@ take-held Nothing c d e = refl
 take-held (Held n) c d e = ap (held n) e
 take-held Dropped c d e = refl
 
-gives≢refuses : {A : Type 0} {a : A} {n : ℕ} → _≡_ {A = Told A} (gives a) (refuses n) → ⊥
+pub gives≢refuses : {A : Type 0} {a : A} {n : ℕ} → _≡_ {A = Told A} (gives a) (refuses n) → ⊥
 gives≢refuses {A} {a} {n} e = let z : _≡_ {A = ℕ} 0 1 = cc in omega arith
 
 early-stays : (n : Refusal) (t : State) (p : Page) (c : Bytes) → numberOf n < 12 → carryAfter (some n) t p c ≡ c

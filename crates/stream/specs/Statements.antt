@@ -1,18 +1,24 @@
 -- What is proved of the rules of a stream, over any readings and any bytes. Assumes nothing.
 use Prim.Native.Nat.{ℕ, _+_, _-_, _%_, _^_, _≤_, _<_}
 use mathlib.Core.Path.{_≡_}
-use mathlib.Core.Bool.{Bool, true, false}
+use mathlib.Core.Bool.{Bool, true, false, not}
 use mathlib.Core.List.{List, [], _∷_, map}
 use lib.ListN.{length, take, drop}
-use Rattle.octets.specs.Octets.{Bytes, total}
-use Rattle.refusal.specs.Told.{Told, gives, refuses}
+use Rattle.octets.specs.Octets.{Bytes, Octets, total}
+use Rattle.refusal.specs.declared.Refusal.the-variants.{BadHead, BadMapping}
+use Rattle.refusal.specs.Checks.{_when_, firstOf}
+use Rattle.refusal.specs.Told.{Told, gives, refuses, decided}
+use Rattle.ogg_page.specs.Reading.{readPage}
+use Rattle.opus_head.specs.Reading.{readHead}
+use Rattle.opus_packet.specs.Streams.{readPacket}
 use Rattle.granule.specs.declared.Position.the-variants.{Unset}
 use Rattle.stream.specs.declared.Core.{Core}
 use Rattle.stream.specs.declared.Counts.{Counts}
 use Rattle.stream.specs.Page.{Page, pageOf, continued}
-use Rattle.stream.specs.Readings.{Readings}
+use Rattle.stream.specs.Readings.{Readings, readings}
 use Rattle.stream.specs.State.{State, isFirst}
-use Rattle.stream.specs.Feed.{Reader, carriedIn, view, start, openAt, Lent, isShort, feed, Taken, Entry}
+use Rattle.stream.specs.Rules.{pageChecks, packetChecks}
+use Rattle.stream.specs.Feed.{Reader, carriedIn, view, start, openAt, openPartWay, Lent, listMax, isShort, feed, Taken, Entry}
 use Rattle.stream.specs.Stream.{openAfter, leftAfter, carriedOf, headOf, audioPages, phaseOf, serialOf, Mark, marks, positionFrom, lastGranule, initial, holes, decodedIn, keptCount, skippedCount, trimmedCount, Listing, listings}
 use Rattle.stream.specs.Feedings.{Feeding, feedIn, readerAfter, finally, heldOf, carryLeft, HandedOn, Shown, stream, bytesIn, bytesOf, Marked, allOf, marked, RoomAtMarks, OthersRefused, tell, toldAtMarks, joined, stood}
 
@@ -171,3 +177,43 @@ abbrev pub StreamCounts : Type 0
 StreamCounts =
     (R : Readings) (F : List Feeding) → HandedOn R start [] F
     → Counted (stream R start F) (headOf R (bytesOf (stream R start F)) .preskip) (marks R (bytesOf (stream R start F)))
+
+-- ---- what an accepted page leaves in the lists: the entries in the first places, and the rest as it was
+
+pub record Shows (m e : Lent) (es : List Entry) (c : Counts) : Type 0 where
+  pub packets : c .packets ≡ length es
+  pub few : length es ≤ listMax
+  pub ends : (take (length es) (e .ends) ≡ map (λ (n : Entry). n .end) es) × (drop (length es) (e .ends) ≡ drop (length es) (m .ends))
+  pub sizes : (take (length es) (e .sizes) ≡ map (λ (n : Entry). n .size) es) × (drop (length es) (e .sizes) ≡ drop (length es) (m .sizes))
+  pub kept : (take (length es) (e .kept) ≡ map (λ (n : Entry). n .kept) es) × (drop (length es) (e .kept) ≡ drop (length es) (m .kept))
+  pub room : length (e .carry) ≡ length (m .carry)
+
+abbrev pub AcceptedShows : Type 0
+AcceptedShows =
+    (R : Readings) (r : Reader) (m : Lent) (b : Bytes) (t : Taken) → Octets b → feed R r m b .told ≡ gives t
+    → Shows m (feed R r m b .lent) (feed R r m b .entries) (t .counts)
+
+-- ---- the real readings
+
+-- they tell what reading a page, a header and a packet alone tells
+pub record Agree (crc : Bytes → ℕ) (isTags : Bytes → Bool) : Type 0 where
+  pub page : (b : Bytes) → decided (firstOf (pageChecks (readings crc isTags) b)) (pageOf b .header) ≡ readPage crc b
+  pub head : (b : Bytes)
+      → decided (firstOf (BadHead when not (readings crc isTags .isHead b) ∷ BadMapping when not (readings crc isTags .isMapped b) ∷ [])) (readings crc isTags .headOf b)
+      ≡ readHead b
+  pub packet : (b : Bytes) (n : ℕ) → 1 ≤ n → n ≤ 255
+      → decided (firstOf (packetChecks (readings crc isTags) n (b ∷ []))) (readings crc isTags .samplesOf n b) ≡ readPacket b n
+
+abbrev pub ReadingsAgree : Type 0
+ReadingsAgree = (crc : Bytes → ℕ) (isTags : Bytes → Bool) → Agree crc isTags
+
+abbrev pub AllOctets : List Feeding → Type 0
+AllOctets [] = Unit {0}
+AllOctets (f ∷ fs) = Octets (f .bytes) × AllOctets fs
+
+-- opening part way takes the header record of a stream
+abbrev pub OpensStream : Type 0
+OpensStream =
+    (crc : Bytes → ℕ) (isTags : Bytes → Bool) (F : List Feeding) → AllOctets F → HandedOn (readings crc isTags) start [] F
+    → 0 < length (stream (readings crc isTags) start F)
+    → openPartWay (headOf (readings crc isTags) (bytesOf (stream (readings crc isTags) start F))) ≡ gives (openedIn (readings crc isTags) F)
