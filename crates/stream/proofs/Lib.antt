@@ -16,3 +16,6 @@ pub mod MarkCounts
 pub mod Theorem4
 pub mod Real
 pub mod Lists
+pub mod Plan
+pub mod Example
+pub mod Meets

@@ -31,11 +31,11 @@ seeing : Core → Carried → State
 seeing k x = record { phase = k .phase; carried = x; position = k .position; serial = k .serial; next = k .next; streams = k .streams; preskip = k .preskip }
 
 -- it has room, and its carry buffer agrees with `old` up to the held count
-record Turn (R : Readings) (r : Reader) (old : Bytes) (f : Feeding) : Type 0 where
-  feeds : feedIn R r f ≡ fedAt (verdict R (view (r .core) old) (f .bytes)) R r (f .lent) (view (r .core) old) (f .bytes)
-  steps : Stepped R r (view (r .core) old) (f .bytes) (verdict R (view (r .core) old) (f .bytes)) (feedIn R r f)
+pub record Turn (R : Readings) (r : Reader) (old : Bytes) (f : Feeding) : Type 0 where
+  pub feeds : feedIn R r f ≡ fedAt (verdict R (view (r .core) old) (f .bytes)) R r (f .lent) (view (r .core) old) (f .bytes)
+  pub steps : Stepped R r (view (r .core) old) (f .bytes) (verdict R (view (r .core) old) (f .bytes)) (feedIn R r f)
 
-turn : (R : Readings) (r : Reader) (old : Bytes) (f : Feeding) → isShort (f .lent) ≡ false
+pub turn : (R : Readings) (r : Reader) (old : Bytes) (f : Feeding) → isShort (f .lent) ≡ false
     → take (heldOf (r .core .pending)) (f .lent .carry) ≡ take (heldOf (r .core .pending)) old → Turn R r old f
 unfolding seeing
 turn R r old f room agrees =

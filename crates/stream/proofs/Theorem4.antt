@@ -175,7 +175,7 @@ marks-legal R head (x ∷ xs) false o h position serial next skip k f =
     )
     by false e again = again (last (pageOf (x .bytes))) position (lists false e)
 
-after-same : (ys : List Shown) → afterComment id-bytes (bytesOf ys) ≡ bytesOf (afterComment bytesIn ys)
+pub after-same : (ys : List Shown) → afterComment id-bytes (bytesOf ys) ≡ bytesOf (afterComment bytesIn ys)
 unfolding afterComment
 after-same [] = refl
 after-same (y ∷ ys) = by (completes (pageOf (y .bytes))) (after-same ys)

@@ -7,3 +7,4 @@ pub mod Feed
 pub mod Stream
 pub mod Feedings
 pub mod Statements
+pub mod Example
