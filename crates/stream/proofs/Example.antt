@@ -56,7 +56,7 @@ pub record Reads (b : Bytes) (p : Page) : Type 0 where
   pub isPage : R .isPage b ≡ true
   pub isSealed : R .isSealed b ≡ true
 
-reads : (p : Page) → Fit (p .header) → writeTold (p .header) (p .lacing) (p .body) (replicate (pageSize (p .lacing) (p .body)) 0) ≡ gives (pageSize (p .lacing) (p .body))
+pub reads : (p : Page) → Fit (p .header) → writeTold (p .header) (p .lacing) (p .body) (replicate (pageSize (p .lacing) (p .body)) 0) ≡ gives (pageSize (p .lacing) (p .body))
     → Reads (written p) p
 unfolding readings pageOf readPage written
 reads p fit told =

@@ -13,7 +13,8 @@ use Rattle.octets.specs.Numbers.{value, octets, number}
 use Rattle.refusal.specs.declared.Refusal.{Refusal}
 use Rattle.refusal.specs.Told.{Told, gives, refuses}
 use Rattle.ogg_crc.specs.Crc.{pageCrc}
-use Rattle.ogg_page.specs.Writing.{startOf}
+use Rattle.refusal.specs.Checks.{firstOf}
+use Rattle.ogg_page.specs.Writing.{startOf, writeTold}
 use Rattle.opus_head.specs.declared.Head.{Head}
 use Rattle.opus_head.specs.Fields.{streamsOf, coupledOf, indicesOf, places, headOf as fieldsOf}
 use Rattle.opus_packet.specs.Frames.{configSamples, frameSamples, coded, codedTimes, paddingFrom}
@@ -25,19 +26,21 @@ use Rattle.stream.specs.Page.{Page, pageOf, continued, last, ends, compl
 use Rattle.stream.specs.Readings.{Readings, readings}
 use Rattle.stream.specs.State.{State}
 use Rattle.stream.specs.Rules.{Stamp, firstPacket, verdict, after, stamped}
-use Rattle.stream.specs.Feed.{Reader, view, start, openAt}
+use Rattle.stream.specs.Feed.{Reader, view, start, openAt, Taken, Fed, fedBy, feed}
 use Rattle.stream.specs.Stream.{segments, segmentsOf, packetsFrom, leftFrom, openFrom, openAfter, headOf, afterComment, audioPages, Mark, lengthsFrom, markFrom, marksFrom, marks, initial, holesFrom, holes, decodedIn, countFrom, keptCount, trimmedCount}
 use Rattle.stream.specs.Feedings.{Shown, stream, bytesIn, bytesOf, allOf, marked, stood}
-use Rattle.stream.specs.Statements.{audioIn, openedIn}
-use Rattle.stream.specs.Example.{R, headPage, tagsPage, firstPage, middlePage, holePage, lastPage, written, Planned, follow, firstPlan, secondPlan, room, F, M, soundMarks, Meets}
-use Rattle.stream.proofs.Step.{stateBy, tellBy}
+use Rattle.stream.specs.Statements.{pageFurther, audioIn, openedIn}
+use Rattle.stream.specs.Example.{R, headPage, tagsPage, firstPage, middlePage, holePage, lastPage, written, Planned, follow, firstPlan, secondPlan, room, F, M, soundMarks, Meets, lentWith, shiftedPage, MeetsAlone}
+use Rattle.stream.proofs.Step.{expected, saw, feeds, feeds-short, stateBy, tellBy}
+use Rattle.stream.proofs.Clear.{some≢none}
+use Rattle.stream.proofs.Theorem1.{fresh}
 use Rattle.stream.proofs.Joining.{toldAll}
 use Rattle.stream.proofs.Runs.{Second, second}
 use Rattle.stream.proofs.Theorem4.{after-same}
 use Rattle.stream.proofs.HeaderRun.{id-bytes}
 use Rattle.stream.proofs.Real.{opens-stream}
-use Rattle.stream.proofs.Plan.{Goes, wanted, PlanOctets, Followed, followed, plan-octets}
-use Rattle.stream.proofs.Example.{Reads, Step, allBelow, head-reads, tags-reads, first-reads, middle-reads, hole-reads, last-reads, s5, q0, q1, stamp, last-step, opened-step, dropped-step, second-goes, room-enough, first-followed, page-octets}
+use Rattle.stream.proofs.Plan.{roomy, lacks, Goes, wanted, PlanOctets, Followed, followed, plan-octets}
+use Rattle.stream.proofs.Example.{Reads, reads, Step, allBelow, head-step, head-reads, tags-reads, first-reads, middle-reads, hole-reads, last-reads, s5, q0, q1, stamp, last-step, opened-step, dropped-step, second-goes, room-enough, first-followed, page-octets}
 
 abbrev S : List Shown
 S = stream R start F
@@ -210,3 +213,36 @@ meets =
       trimmed = refl;
       kept = refl;
     }
+
+-- ---- the others
+
+shifted-reads : Reads (written shiftedPage) shiftedPage
+unfolding writeTold firstOf total
+shifted-reads = reads shiftedPage (record { flags = lit< tt; granule = lit< tt; serial = lit< tt; sequence = lit< tt }) refl
+
+told-by : (v : Option Refusal) → v ≡ none
+    → (t : Taken) × (fedBy v R start (lentWith room) (expected start room (written headPage)) (pageOf (written headPage)) (saw start room (written headPage)) .told ≡ gives t)
+told-by none e = (_, refl)
+told-by (some n) e = absurd (some≢none e)
+
+first-taken : (t : Taken) × (feed R start (lentWith room) (written headPage) .told ≡ gives t)
+first-taken =
+    let k = told-by (verdict R fresh (written headPage)) (head-step .passes) in
+    (k .0, ap (λ (f : Fed). f .told) (feeds R start (lentWith room) (written headPage) (roomy room room-enough)) ∙ k .1)
+
+pub meets-alone : MeetsAlone
+meets-alone = record {
+  refused = ap (λ (f : Fed). f .told) (feeds-short R start (lentWith []) (written headPage) lacks);
+  accepted = first-taken;
+  octets = head-octets;
+  roomy = roomy room room-enough;
+  further = record {
+    page = shifted-reads .page ∙ sym (ap (pageFurther 5) (hole-reads .page));
+    isPage = shifted-reads .isPage ∙ sym (hole-reads .isPage);
+    isSealed = shifted-reads .isSealed ∙ sym (hole-reads .isSealed);
+    fits = rw (hole-reads .page) (lit< tt);
+  };
+  alike = refl;
+  going = refl;
+  small = lit< tt;
+}

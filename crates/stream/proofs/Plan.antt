@@ -27,11 +27,11 @@ use Rattle.stream.proofs.Runs.{fedAt, Turn, turn}
 
 -- ---- lent memory
 
-roomy : (c : Bytes) → packetMax ≤ length c → isShort (lentWith c) ≡ false
+pub roomy : (c : Bytes) → packetMax ≤ length c → isShort (lentWith c) ≡ false
 unfolding isShort
 roomy c h = rw (le-ltb (length c) packetMax h) refl
 
-lacks : isShort (lentWith []) ≡ true
+pub lacks : isShort (lentWith []) ≡ true
 unfolding isShort
 lacks = refl
 

@@ -1,23 +1,27 @@
 -- A stream on which the hypotheses of every theorem hold: a packet over three pages, a hole, a trim, and an opening in the
 -- middle of that packet. Its pages are made by the page writer's definition. Assumes nothing.
-use Prim.Native.Nat.{ℕ, _-_, _^_}
+use Prim.Native.Nat.{ℕ, _-_, _<_, _^_}
 use mathlib.Core.Path.{_≡_}
 use mathlib.Core.Bool.{Bool, true, false}
 use mathlib.Core.List.{List, [], _∷_, map}
 use lib.ListN.{take, drop, replicate}
 use Rattle.octets.specs.Pick.{pick}
-use Rattle.octets.specs.Octets.{Bytes, begins}
-use Rattle.refusal.specs.Told.{gives}
+use Rattle.octets.specs.Octets.{Bytes, Octets, begins}
+use Rattle.refusal.specs.Told.{gives, refuses}
 use Rattle.ogg_crc.specs.Crc.{pageCrc}
 use Rattle.ogg_page.specs.declared.PageHeader.{PageHeader}
 use Rattle.ogg_page.specs.Writing.{pageSize, writeOut}
+use Rattle.granule.specs.declared.Position.the-variants.{At}
+use Rattle.stream.specs.declared.Phase.the-variants.{Audio}
+use Rattle.stream.specs.declared.Pending.the-variants.{Held}
 use Rattle.stream.specs.Page.{Page}
 use Rattle.stream.specs.Readings.{Readings, readings}
+use Rattle.stream.specs.State.{isFirst}
 use Rattle.stream.specs.Packets.{packetMax}
-use Rattle.stream.specs.Feed.{Reader, start, openPartWay, Lent, listMax}
+use Rattle.stream.specs.Feed.{Reader, start, openPartWay, Lent, listMax, isShort, Taken, feed}
 use Rattle.stream.specs.Stream.{headOf, Mark, marks, initial, holes, keptCount, trimmedCount}
 use Rattle.stream.specs.Feedings.{Feeding, feedIn, readerAfter, HandedOn, stream, bytesOf, Marked, allOf, marked, RoomAtMarks, OthersRefused, toldAtMarks, stood}
-use Rattle.stream.specs.Statements.{AllOctets, audioIn, beganBefore, openedIn}
+use Rattle.stream.specs.Statements.{stateFurther, BytesFurther, viewOf, AllOctets, audioIn, beganBefore, openedIn}
 
 -- "OpusTags"
 abbrev tagsSignature : Bytes
@@ -147,3 +151,26 @@ pub record Meets : Type 0 where
   pub hole : holes soundMarks ≡ 1520
   pub trimmed : trimmedCount soundMarks ≡ 380
   pub kept : keptCount 312 soundMarks ≡ 748
+
+-- ---- the hypotheses of T0, of T2 and of the lists
+
+-- the page that ends the long packet, five sequence numbers on
+abbrev pub shiftedPage : Page
+shiftedPage = page 1 3000 9 (90 ∷ []) (replicate 90 0)
+
+-- a reader in the middle of that packet, at which this sequence number is due
+abbrev pub waiting : ℕ → Reader
+waiting next = record {
+  core = record { phase = Audio; pending = Held 510; position = At 1000; serial = 7; next = next; streams = 1; preskip = 312 };
+  tally = record { skip = 0 };
+}
+
+pub record MeetsAlone : Type 0 where
+  pub refused : feed R start (lentWith []) (written headPage) .told ≡ refuses 1
+  pub accepted : (t : Taken) × (feed R start (lentWith room) (written headPage) .told ≡ gives t)
+  pub octets : Octets (written headPage)
+  pub roomy : isShort (lentWith room) ≡ false
+  pub further : BytesFurther R 5 (written holePage) (written shiftedPage)
+  pub alike : viewOf (waiting 9) room ≡ stateFurther 5 (viewOf (waiting 4) room)
+  pub going : isFirst (waiting 4 .core .phase) ≡ false
+  pub small : waiting 4 .core .next < 2 ^ 32
