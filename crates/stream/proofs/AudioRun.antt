@@ -14,7 +14,7 @@ use Rattle.octets.specs.Pick.{pick}
 use Rattle.octets.specs.Octets.{Bytes, total}
 use Rattle.opus_head.specs.declared.Head.{Head}
 use Rattle.granule.specs.declared.Position.{Position}
-use Rattle.granule.specs.declared.Position.the-variants.{Unset, At}
+use Rattle.granule.specs.declared.Position.the-variants.{At}
 use Rattle.granule.specs.Samples.{tally, isTrimmed, isSkipped, isKept, keptOf, skippedOf, trimmedOf}
 use Rattle.granule.specs.Judging.{from, hole}
 use Rattle.granule.proofs.Tallies.{tally-same}

@@ -1,24 +1,20 @@
 -- What a feeding leaves in the carry buffer is what the state that follows holds; a refusal keeps the held bytes (T0).
 -- Assumes nothing.
-use Prim.Native.Nat.{ℕ, _+_, _-_, _≤_, _<_}
-use mathlib.Core.Path.{_≡_, refl, sym, ap, ap₂, subst, _∙_}
-use mathlib.Core.Bool.{Bool, true, false, _||_, false≢true}
-use mathlib.Core.List.{List, [], _∷_, _++_, map}
+use Prim.Native.Nat.{ℕ, _+_, _≤_}
+use mathlib.Core.Path.{_≡_, refl, sym, ap, subst, _∙_}
+use mathlib.Core.Bool.{Bool, true, false, false≢true}
+use mathlib.Core.List.{List, [], _∷_, _++_}
 use mathlib.Core.Option.{Option, none, some}
 use native.Mathlib.Nat.{le-refl}
 use native.Mathlib.Omega.{arith}
-use borrow.Author.Tests.{ltb-false, lt-leb}
-use lib.Dec.{ltb, leb}
 use lib.ListN.{length, take, drop, length-append}
-use lib.Seq.{paste, take-length, take-append-seam, take-append-le, take-take, take-paste, length-take-le}
+use lib.Seq.{take-length, take-append-seam, take-append-le, take-take, take-paste, length-take-le}
 use Rattle.octets.specs.Pick.{pick}
 use Rattle.octets.specs.Octets.{Bytes, copied}
 use Rattle.octets.proofs.Copying.{copied-fits, length-copied}
 use Rattle.refusal.specs.declared.Refusal.{Refusal}
-use Rattle.refusal.specs.declared.Refusal.the-variants.{ShortRoom, AfterEnd, NotOnePage, WrongChecksum, OtherSerial, OutOfSequence, WrongFlags, WrongContinued, PacketTooLong}
+use Rattle.refusal.specs.declared.Refusal.the-variants.{AfterEnd, NotOnePage, WrongChecksum, OtherSerial, OutOfSequence, WrongFlags, WrongContinued, PacketTooLong}
 use Rattle.refusal.specs.Checks.{Check, _when_, firstOf}
-use Rattle.refusal.specs.Told.{Told, gives, refuses}
-use Rattle.refusal.specs.Numbers.{numberOf}
 use Rattle.stream.specs.declared.Phase.{Phase}
 use Rattle.stream.specs.declared.Phase.the-variants.{First, Comment, Audio, Opened, Ended}
 use Rattle.stream.specs.declared.Pending.{Pending}
@@ -27,12 +23,10 @@ use Rattle.stream.specs.declared.Core.{Core}
 use Rattle.stream.specs.Page.{Page, pageOf, continued, whole, rest}
 use Rattle.stream.specs.Readings.{Readings}
 use Rattle.stream.specs.State.{Carried, nothing, dropped, held, State, isComment, expectingIn, expecting}
-use Rattle.stream.specs.Packets.{Seen, begun, join, seen, packetMax, isLong}
-use Rattle.stream.specs.Rules.{checksOn, Stamp, stamps, stampsOn, nextOn, verdict, after, stamped}
-use Rattle.stream.specs.Feed.{Reader, carriedIn, pendingOf, view, coreOf, stampOf, entries, entriesOn, Lent, isShort, firstPiece, appended, newRest, withRest, isLate, carryAfter, Taken, Fed, fedBy, feed}
-use Rattle.stream.specs.Feedings.{readerBy, heldOf, isRefused, tell}
-use Rattle.stream.specs.Statements.{Keeps, RefusalKeeps}
-use Rattle.stream.proofs.Pieces.{or-left, Fits, piece-fits, RestFits, new-fits}
+use Rattle.stream.specs.Packets.{Seen, begun, join, packetMax, isLong}
+use Rattle.stream.specs.Rules.{checksOn}
+use Rattle.stream.specs.Feed.{carriedIn, pendingOf, view, firstPiece, appended, newRest, withRest, isLate, carryAfter}
+use Rattle.stream.proofs.Pieces.{Fits, RestFits}
 
 -- ---- copies
 

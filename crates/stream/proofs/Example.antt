@@ -1,11 +1,10 @@
 -- The example's pages are accepted as they should be. Assumes nothing.
-use Prim.Native.Nat.{ℕ, zero, suc, _+_, _-_, _≤_, _<_, _^_}
+use Prim.Native.Nat.{ℕ, zero, suc, _+_, _≤_, _<_}
 use native.Mathlib.Nat.{le-of-eq}
-use mathlib.Core.Path.{_≡_, refl, sym, ap, ap₂, subst, _∙_}
+use mathlib.Core.Path.{_≡_, refl, sym, ap, subst, _∙_}
 use mathlib.Core.Bool.{Bool, true, false, not, _&&_}
 use mathlib.Core.List.{List, [], _∷_, _++_}
 use mathlib.Core.Option.{Option, none, some}
-use native.Mathlib.Omega.{arith}
 use borrow.Author.Tests.{not-false, ltb-true}
 use lib.Dec.{ltb, leb, eqb, lit<}
 use lib.ListN.{length, getD, take, drop, replicate, length-replicate}
@@ -19,10 +18,10 @@ use Rattle.octets.proofs.Parts.{octets-tail, octets-take, octets-drop}
 use Rattle.refusal.specs.declared.Refusal.{Refusal}
 use Rattle.refusal.specs.declared.Refusal.the-variants.{NotOnePage, WrongChecksum}
 use Rattle.refusal.specs.Checks.{Check, _when_, firstOf}
-use Rattle.refusal.specs.Told.{gives, decided}
+use Rattle.refusal.specs.Told.{gives}
 use Rattle.refusal.proofs.Checks.{no-refusal, passed}
 use Rattle.ogg_crc.specs.Crc.{pageCrc}
-use Rattle.ogg_page.specs.Page.{hasCapture, headerOf, checksumOf, lacingOf, bodyOf}
+use Rattle.ogg_page.specs.Page.{hasCapture, headerOf, checksumOf}
 use Rattle.ogg_page.specs.Lacing.{endedFrom, unfinishedFrom, cutFrom}
 use Rattle.ogg_page.specs.Reading.{isOnePage, readChecks, readPage}
 use Rattle.ogg_page.specs.Writing.{sealed, startOf, pageBytes, pageSize, writeChecks, written as writtenBy, writeTold, writeOut}
@@ -38,16 +37,16 @@ use Rattle.granule.specs.declared.Position.{Position}
 use Rattle.granule.specs.declared.Position.the-variants.{Unset, Joined, At}
 use Rattle.granule.specs.Judging.{from}
 use Rattle.stream.specs.declared.Phase.{Phase}
-use Rattle.stream.specs.declared.Phase.the-variants.{First, Comment, Audio, Opened, Ended}
-use Rattle.stream.specs.Page.{Page, pageOf, continued, last, ends, completes, whole, rest}
-use Rattle.stream.specs.Readings.{Readings, readings}
+use Rattle.stream.specs.declared.Phase.the-variants.{Comment, Audio, Opened, Ended}
+use Rattle.stream.specs.Page.{Page, pageOf, continued, last, whole, rest}
+use Rattle.stream.specs.Readings.{readings}
 use Rattle.stream.specs.State.{Carried, nothing, dropped, held, State, isEnded, expecting}
 use Rattle.stream.specs.Packets.{Seen, join, seen, packetMax, anyLong, longFrom, afterFirst, audioPackets, lengthsOf}
 use Rattle.stream.specs.Rules.{wrongFlags, wrongShape, wrongGranule, fieldChecks, lacingChecks, headerChecks, packetChecks, timeChecks, checksOn, Stamp, stamps, startOn, stampsOn, nextOn, verdict, after, stamped}
-use Rattle.stream.specs.Example.{R, headPage, tagsPage, firstPage, middlePage, holePage, lastPage, written, Planned, follow, firstPlan, secondPlan, room, F, M, Meets}
+use Rattle.stream.specs.Example.{R, headPage, tagsPage, firstPage, middlePage, holePage, lastPage, written, Planned, follow, firstPlan, secondPlan, room}
 use Rattle.stream.specs.Feed.{start}
 use Rattle.stream.proofs.Theorem1.{fresh}
-use Rattle.stream.proofs.Plan.{isSome, Goes, wanted, Followed, followed, plan-octets}
+use Rattle.stream.proofs.Plan.{isSome, Goes, wanted, Followed, followed}
 
 -- ---- what was written reads as the page
 

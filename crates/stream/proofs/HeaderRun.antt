@@ -2,7 +2,7 @@
 -- position, and the whole pre-skip still to skip. Assumes nothing.
 use Prim.Native.Nat.{ℕ, suc, _+_, _-_, _%_, _^_, _<_}
 use mathlib.Core.Path.{_≡_, refl, sym, ap, ap₂, subst, _∙_}
-use mathlib.Core.Bool.{Bool, true, false, not, _&&_, true≢false, false≢true}
+use mathlib.Core.Bool.{Bool, true, false, false≢true}
 use mathlib.Core.List.{List, [], _∷_, map}
 use mathlib.Core.Option.{Option, none, some}
 use native.Mathlib.Nat.{sub-zero, zero-add}
@@ -12,20 +12,19 @@ use lib.ListN.{length}
 use Rattle.octets.specs.Pick.{pick}
 use Rattle.octets.specs.Octets.{Bytes, total}
 use Rattle.opus_head.specs.declared.Head.{Head}
-use Rattle.granule.specs.declared.Position.{Position}
 use Rattle.granule.specs.declared.Position.the-variants.{Unset}
 use Rattle.granule.specs.Samples.{tally, keptOf, skippedOf, trimmedOf}
 use Rattle.stream.specs.declared.Phase.{Phase}
-use Rattle.stream.specs.declared.Phase.the-variants.{First, Comment, Audio}
-use Rattle.stream.specs.Page.{Page, pageOf, last, completes, whole, rest}
+use Rattle.stream.specs.declared.Phase.the-variants.{Comment, Audio}
+use Rattle.stream.specs.Page.{Page, pageOf, completes, whole, rest}
 use Rattle.stream.specs.Readings.{Readings}
 use Rattle.stream.specs.State.{Carried, nothing, dropped, held, State, unfinished, expecting}
 use Rattle.stream.specs.Packets.{begun, join, seen, audioPackets, lengthsOf}
-use Rattle.stream.specs.Rules.{onePiece, wrongShape, firstPacket, startOn, nextOn, verdict, after}
+use Rattle.stream.specs.Rules.{onePiece, wrongShape, nextOn, verdict, after}
 use Rattle.stream.specs.Feed.{entries, entriesOn, countsOn, skipOn}
-use Rattle.stream.specs.Stream.{segments, segmentsOf, packetsFrom, leftFrom, openFrom, openAfter, leftAfter, carriedOf, headOf, afterComment, audioPages, endedAfter, audioPhase, commentPhase, phaseOf, serialOf, Mark, marksFrom, marks, positionFrom, decodedIn, Listing, silent, audioListings, commentListings, listings}
+use Rattle.stream.specs.Stream.{segmentsOf, leftFrom, openFrom, openAfter, leftAfter, carriedOf, afterComment, endedAfter, audioPhase, commentPhase, Mark, marksFrom, positionFrom, decodedIn, Listing, silent, audioListings, commentListings, listings}
 use Rattle.stream.specs.Feedings.{Shown, bytesIn, bytesOf, stood}
-use Rattle.stream.proofs.Passed.{Shaped, shaped}
+use Rattle.stream.proofs.Passed.{shaped}
 use Rattle.stream.proofs.Pieces.{page-completes}
 use Rattle.stream.proofs.Segments.{Begun, begun-left, carried-open, joins}
 use Rattle.stream.proofs.Meeting.{audio}

@@ -2,7 +2,7 @@
 use Prim.Native.Nat.{ℕ, suc, _+_, _-_, _≤_, _<_, min}
 use mathlib.Core.Path.{_≡_, refl, sym, ap, subst, _∙_}
 use mathlib.Core.Bool.{Bool, true, false}
-use mathlib.Core.List.{List, [], _∷_, _++_, map}
+use mathlib.Core.List.{List, [], _∷_, map}
 use mathlib.Core.Option.{Option, none, some}
 use native.Mathlib.Omega.{arith}
 use lib.Dec.{ltb}
@@ -11,11 +11,11 @@ use lib.Seq.{take-at, drop-at}
 use Rattle.octets.specs.Pick.{pick}
 use Rattle.octets.specs.Octets.{Bytes, Octets}
 use Rattle.refusal.specs.declared.Refusal.{Refusal}
-use Rattle.refusal.specs.Told.{Told, gives, refuses}
+use Rattle.refusal.specs.Told.{Told, gives}
 use Rattle.ogg_page.specs.Page.{lacingOf, countOf}
 use Rattle.ogg_page.specs.Lacing.{cutFrom}
 use Rattle.stream.specs.declared.Counts.{Counts}
-use Rattle.stream.specs.Page.{Page, pageOf, wholeFrom, whole, rest}
+use Rattle.stream.specs.Page.{pageOf, wholeFrom, whole, rest}
 use Rattle.stream.specs.Readings.{Readings}
 use Rattle.stream.specs.State.{Carried, nothing, dropped, held, State, inHeaders}
 use Rattle.stream.specs.Packets.{Seen, join, seen, audioPackets, lengthsOf}

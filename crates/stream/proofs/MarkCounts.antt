@@ -1,7 +1,7 @@
 -- Samples counted over marks: each is kept, skipped or trimmed, the positions that they span, and the closed form. Assumes
 -- nothing.
 use Prim.Native.Nat.{ℕ, _+_, _-_, _≤_, min}
-use mathlib.Core.Path.{_≡_, refl, sym, ap, ap₂, _∙_}
+use mathlib.Core.Path.{_≡_, refl, sym, ap, _∙_}
 use mathlib.Core.Bool.{Bool, true, false, not, _&&_}
 use mathlib.Core.List.{List, [], _∷_, cons≢nil}
 use native.Mathlib.Nat.{add-zero, add-assoc}
@@ -11,7 +11,7 @@ use Rattle.granule.specs.declared.Position.{Position}
 use Rattle.granule.specs.declared.Position.the-variants.{Unset, At}
 use Rattle.granule.specs.Samples.{one, tally, keptOf, trimmedOf}
 use Rattle.granule.specs.Judging.{tooSmall, before, hole, from, placed}
-use Rattle.granule.specs.Statements.{Closed, Fits}
+use Rattle.granule.specs.Statements.{Fits}
 use Rattle.granule.proofs.Tallies.{tally-three}
 use Rattle.granule.proofs.Counting.{closed-forms}
 use Rattle.granule.proofs.Placing.{fits-placed}

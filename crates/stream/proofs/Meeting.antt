@@ -16,11 +16,11 @@ use Rattle.granule.specs.declared.Position.{Position}
 use Rattle.granule.specs.declared.Position.the-variants.{Unset, Joined, At}
 use Rattle.granule.specs.Judging.{tooSmall, from}
 use Rattle.stream.specs.declared.Phase.the-variants.{Audio, Ended}
-use Rattle.stream.specs.Page.{Page, pageOf, last, granuleOf, whole, rest}
+use Rattle.stream.specs.Page.{pageOf, last, granuleOf}
 use Rattle.stream.specs.Readings.{Readings}
 use Rattle.stream.specs.State.{Carried, nothing, dropped, held, State, unfinished}
-use Rattle.stream.specs.Packets.{Seen, begun, join, seen, isLong, audioPackets, lengthsOf}
-use Rattle.stream.specs.Rules.{wrongShape, wrongGranule, packetChecks, timeChecks, checksOn, Stamp, stamps, startOn, stampsOn}
+use Rattle.stream.specs.Packets.{Seen, begun, join, isLong, audioPackets, lengthsOf}
+use Rattle.stream.specs.Rules.{wrongShape, wrongGranule, packetChecks, timeChecks, checksOn, stamps, startOn, stampsOn}
 use Rattle.stream.specs.Feedings.{dropIf}
 use Rattle.stream.proofs.Pieces.{long-dropped}
 use Rattle.stream.proofs.Clear.{Clear}

@@ -1,5 +1,5 @@
 -- The example meets the hypotheses of every theorem. Assumes nothing.
-use Prim.Native.Nat.{ℕ, zero, suc, _+_, _<_, _≤_}
+use Prim.Native.Nat.{ℕ, zero, suc, _<_}
 use mathlib.Core.Path.{_≡_, refl, sym, ap, ap₂, subst, _∙_}
 use mathlib.Core.Bool.{Bool, true, false, not, _&&_, _||_}
 use mathlib.Core.List.{List, [], _∷_, map, nil≢cons}
@@ -11,36 +11,36 @@ use Rattle.octets.specs.Pick.{pick}
 use Rattle.octets.specs.Octets.{Bytes, Octets, total, begins}
 use Rattle.octets.specs.Numbers.{value, octets, number}
 use Rattle.refusal.specs.declared.Refusal.{Refusal}
-use Rattle.refusal.specs.Told.{Told, gives, refuses}
+use Rattle.refusal.specs.Told.{gives}
 use Rattle.ogg_crc.specs.Crc.{pageCrc}
 use Rattle.refusal.specs.Checks.{firstOf}
 use Rattle.ogg_page.specs.Writing.{startOf, writeTold}
 use Rattle.opus_head.specs.declared.Head.{Head}
-use Rattle.opus_head.specs.Fields.{streamsOf, coupledOf, indicesOf, places, headOf as fieldsOf}
+use Rattle.opus_head.specs.Fields.{streamsOf, headOf as fieldsOf}
 use Rattle.opus_packet.specs.Frames.{configSamples, frameSamples, coded, codedTimes, paddingFrom}
 use Rattle.opus_packet.specs.Packet.{countedShape, shapeOf, parse}
 use Rattle.opus_packet.specs.Streams.{lengthsOf as packetLengths}
 use Rattle.granule.specs.Samples.{tally}
 use Rattle.granule.specs.Judging.{from}
-use Rattle.stream.specs.Page.{Page, pageOf, continued, last, ends, completes}
-use Rattle.stream.specs.Readings.{Readings, readings}
+use Rattle.stream.specs.Page.{Page, pageOf, last, ends, completes}
+use Rattle.stream.specs.Readings.{readings}
 use Rattle.stream.specs.State.{State}
-use Rattle.stream.specs.Rules.{Stamp, firstPacket, verdict, after, stamped}
-use Rattle.stream.specs.Feed.{Reader, view, start, openAt, Taken, Fed, fedBy, feed}
-use Rattle.stream.specs.Stream.{segments, segmentsOf, packetsFrom, leftFrom, openFrom, openAfter, headOf, afterComment, audioPages, Mark, lengthsFrom, markFrom, marksFrom, marks, initial, holesFrom, holes, decodedIn, countFrom, keptCount, trimmedCount}
-use Rattle.stream.specs.Feedings.{Shown, stream, bytesIn, bytesOf, allOf, marked, stood}
+use Rattle.stream.specs.Rules.{firstPacket, verdict}
+use Rattle.stream.specs.Feed.{view, start, openAt, Taken, Fed, fedBy, feed}
+use Rattle.stream.specs.Stream.{segments, segmentsOf, packetsFrom, leftFrom, openFrom, openAfter, headOf, afterComment, audioPages, Mark, markFrom, marksFrom, marks, initial, holesFrom, countFrom}
+use Rattle.stream.specs.Feedings.{Shown, stream, bytesIn, bytesOf, stood}
 use Rattle.stream.specs.Statements.{pageFurther, audioIn, openedIn}
-use Rattle.stream.specs.Example.{R, headPage, tagsPage, firstPage, middlePage, holePage, lastPage, written, Planned, follow, firstPlan, secondPlan, room, F, M, soundMarks, Meets, lentWith, shiftedPage, MeetsAlone}
-use Rattle.stream.proofs.Step.{expected, saw, feeds, feeds-short, stateBy, tellBy}
+use Rattle.stream.specs.Example.{R, headPage, tagsPage, firstPage, middlePage, holePage, lastPage, written, firstPlan, secondPlan, room, F, M, soundMarks, Meets, lentWith, shiftedPage, MeetsAlone}
+use Rattle.stream.proofs.Step.{expected, saw, feeds, feeds-short}
 use Rattle.stream.proofs.Clear.{some≢none}
 use Rattle.stream.proofs.Theorem1.{fresh}
 use Rattle.stream.proofs.Joining.{toldAll}
-use Rattle.stream.proofs.Runs.{Second, second}
+use Rattle.stream.proofs.Runs.{second}
 use Rattle.stream.proofs.Theorem4.{after-same}
 use Rattle.stream.proofs.HeaderRun.{id-bytes}
 use Rattle.stream.proofs.Real.{opens-stream}
 use Rattle.stream.proofs.Plan.{roomy, lacks, Goes, wanted, PlanOctets, Followed, followed, plan-octets}
-use Rattle.stream.proofs.Example.{Reads, reads, Step, allBelow, head-step, head-reads, tags-reads, first-reads, middle-reads, hole-reads, last-reads, s5, q0, q1, stamp, last-step, opened-step, dropped-step, second-goes, room-enough, first-followed, page-octets}
+use Rattle.stream.proofs.Example.{Reads, reads, head-step, head-reads, tags-reads, first-reads, middle-reads, hole-reads, last-reads, q0, stamp, last-step, opened-step, dropped-step, second-goes, room-enough, first-followed, page-octets}
 
 abbrev S : List Shown
 S = stream R start F

@@ -13,7 +13,7 @@ use Rattle.stream.specs.Readings.{Readings}
 use Rattle.stream.specs.State.{State, isEnded, isFirst, isComment, unfinished}
 use Rattle.stream.specs.Packets.{Seen, isLong, audioPackets, lengthsOf}
 use Rattle.stream.specs.Rules.{wrongFlags, wrongShape, wrongGranule, firstPacket, sounds, shapeChecks, packetChecks, timeChecks, checksOn}
-use Rattle.stream.proofs.Clear.{Clear, clear, passes, past, clear-left, clear-right, clear-both}
+use Rattle.stream.proofs.Clear.{Clear, clear, passes, past, clear-left, clear-right}
 
 -- 2 to 16
 pub record Shaped (R : Readings) (s : State) (b : Bytes) (x : Seen) : Type 0 where

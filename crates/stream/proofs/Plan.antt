@@ -1,12 +1,11 @@
 -- Feedings by a plan: the buffers are handed on, and what the states say of the plan holds of the feedings. Assumes nothing.
 use Prim.Native.Nat.{ℕ, _≤_}
-use mathlib.Core.Path.{_≡_, refl, sym, ap, ap₂, subst, _∙_}
-use mathlib.Core.Bool.{Bool, true, false, not, _||_, true≢false, false≢true}
-use mathlib.Core.List.{List, [], _∷_, map}
+use mathlib.Core.Path.{_≡_, refl, sym, ap, subst, _∙_}
+use mathlib.Core.Bool.{Bool, true, false, true≢false, false≢true}
+use mathlib.Core.List.{List, [], _∷_}
 use mathlib.Core.Option.{Option, none, some}
-use native.Mathlib.Omega.{arith}
 use borrow.Author.Tests.{le-ltb}
-use lib.Dec.{T, ltb}
+use lib.Dec.{T}
 use lib.ListN.{length, take}
 use Rattle.octets.specs.Pick.{pick}
 use Rattle.octets.specs.Octets.{Bytes, Octets}
@@ -18,7 +17,7 @@ use Rattle.stream.specs.State.{State}
 use Rattle.stream.specs.Packets.{packetMax}
 use Rattle.stream.specs.Rules.{verdict, after}
 use Rattle.stream.specs.Feed.{Reader, view, Lent, isShort, Taken, Fed, fedBy, feed}
-use Rattle.stream.specs.Feedings.{Feeding, feedIn, readerBy, readerAfter, heldOf, leftIn, HandedOn, Shown, showAs, stream, bytesOf, Marked, allOf, marked, RoomAtMarks, isRefused, OthersRefused}
+use Rattle.stream.specs.Feedings.{Feeding, feedIn, readerBy, readerAfter, heldOf, leftIn, HandedOn, showAs, stream, bytesOf, Marked, allOf, marked, RoomAtMarks, isRefused, OthersRefused}
 use Rattle.stream.specs.Statements.{AllOctets}
 use Rattle.stream.specs.Example.{Planned, lentWith, feeding, follow}
 use Rattle.stream.proofs.Carry.{length-carry}

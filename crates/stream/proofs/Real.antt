@@ -1,21 +1,20 @@
 -- The real readings: they agree with reading alone, and opening part way takes a stream's header record. Assumes nothing.
-use Prim.Native.Nat.{ℕ, _+_, _-_, _≤_, _<_}
+use Prim.Native.Nat.{ℕ, _+_, _-_, _<_}
 use mathlib.Core.Path.{_≡_, refl, sym, ap, _∙_}
-use mathlib.Core.Bool.{Bool, true, false, not, _||_}
+use mathlib.Core.Bool.{Bool, true, false, not}
 use mathlib.Core.List.{List, [], _∷_}
-use mathlib.Core.Option.{Option, none, some}
+use mathlib.Core.Option.{none, some}
 use native.Mathlib.Omega.{arith}
-use borrow.Author.Tests.{ne-eqb, le-ltb, not-false}
+use borrow.Author.Tests.{ne-eqb, le-ltb}
 use lib.Dec.{ltb, eqb, lit<}
-use lib.ListN.{length, getD, take, drop}
+use lib.ListN.{length}
 use Rattle.octets.specs.Pick.{pick}
 use Rattle.octets.specs.Octets.{Bytes, Octets}
 use Rattle.octets.proofs.Parts.{octets-take, octets-drop}
-use Rattle.refusal.specs.declared.Refusal.{Refusal}
 use Rattle.refusal.specs.declared.Refusal.the-variants.{IllegalPacket, MixedLengths}
 use Rattle.refusal.specs.Checks.{firstOf}
 use Rattle.refusal.specs.Told.{Told, gives, refuses, decided}
-use Rattle.ogg_page.specs.Page.{headerOf, bodyOf, countOf}
+use Rattle.ogg_page.specs.Page.{bodyOf, countOf}
 use Rattle.ogg_page.specs.Lacing.{cutFrom}
 use Rattle.ogg_page.specs.Reading.{readPage}
 use Rattle.opus_head.specs.declared.Head.{Head}
@@ -30,8 +29,8 @@ use Rattle.stream.specs.State.{nothing, State, expecting}
 use Rattle.stream.specs.Packets.{join, seen}
 use Rattle.stream.specs.Rules.{firstPacket, packetChecks, verdict}
 use Rattle.stream.specs.Feed.{Reader, start, openAt, openPartWay, Taken}
-use Rattle.stream.specs.Stream.{headOf, segmentsOf, packetsFrom}
-use Rattle.stream.specs.Feedings.{Feeding, feedIn, readerAfter, HandedOn, Shown, showAs, stream, bytesOf}
+use Rattle.stream.specs.Stream.{headOf}
+use Rattle.stream.specs.Feedings.{Feeding, feedIn, readerAfter, Shown, showAs, stream, bytesOf}
 use Rattle.stream.specs.Statements.{ReadingsAgree, AllOctets, OpensStream}
 use Rattle.stream.proofs.Passed.{Shaped, shaped}
 use Rattle.stream.proofs.Pieces.{onwards}

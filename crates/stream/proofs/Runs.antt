@@ -11,15 +11,15 @@ use Rattle.octets.specs.Octets.{Bytes}
 use Rattle.refusal.specs.declared.Refusal.{Refusal}
 use Rattle.refusal.specs.Told.{Told}
 use Rattle.stream.specs.declared.Core.{Core}
-use Rattle.stream.specs.Page.{Page, pageOf}
+use Rattle.stream.specs.Page.{pageOf}
 use Rattle.stream.specs.Readings.{Readings}
 use Rattle.stream.specs.State.{Carried, State, expecting}
-use Rattle.stream.specs.Packets.{Seen, seen}
-use Rattle.stream.specs.Rules.{Stamp, verdict, after, stamped}
-use Rattle.stream.specs.Feed.{Reader, carriedIn, view, entriesOn, countsOn, skipOn, Lent, isShort, Fed, fedBy}
+use Rattle.stream.specs.Packets.{seen}
+use Rattle.stream.specs.Rules.{Stamp, verdict, after}
+use Rattle.stream.specs.Feed.{Reader, view, entriesOn, countsOn, skipOn, Lent, isShort, Fed, fedBy}
 use Rattle.stream.specs.Stream.{Listing}
 use Rattle.stream.specs.Feedings.{Feeding, feedIn, readerBy, readerAfter, finally, heldOf, leftIn, carryLeft, HandedOn, Shown, showAs, stream, bytesOf, Marked, allOf, marked, RoomAtMarks, isRefused, OthersRefused, tell, toldAtMarks}
-use Rattle.stream.proofs.Step.{take-held, feeds, feeds-short, stateBy, tellBy, Stepped, stepped}
+use Rattle.stream.proofs.Step.{take-held, feeds, feeds-short, stateBy, Stepped, stepped}
 use Rattle.stream.proofs.Joining.{afterAll, toldAll, afterTold}
 
 -- ---- one feeding, on the state s

@@ -1,6 +1,6 @@
 -- A page's packets by its segments are those by its pieces. Assumes nothing.
 use Prim.Native.Nat.{ℕ, _+_, _≤_}
-use mathlib.Core.Path.{_≡_, refl, sym, ap, ap₂, subst, _∙_}
+use mathlib.Core.Path.{_≡_, refl, sym, ap, ap₂, _∙_}
 use mathlib.Core.Bool.{Bool, true, false, not, _||_, false≢true, true≢false}
 use mathlib.Core.List.{List, [], _∷_, _++_, append-nil, append-assoc}
 use mathlib.Core.Option.{Option, none, some}
@@ -12,8 +12,8 @@ use lib.Seq.{take-add, drop-drop}
 use Rattle.octets.specs.Pick.{pick}
 use Rattle.octets.specs.Octets.{Bytes}
 use Rattle.ogg_page.specs.Lacing.{unfinishedFrom, cutFrom}
-use Rattle.stream.specs.Page.{Page, ends, wholeFrom, restFrom, whole, rest}
-use Rattle.stream.specs.State.{Carried, nothing, held, unfinished}
+use Rattle.stream.specs.Page.{Page, ends, wholeFrom, whole, rest}
+use Rattle.stream.specs.State.{nothing, held, unfinished}
 use Rattle.stream.specs.Packets.{begun, join}
 use Rattle.stream.specs.Stream.{Segment, segments, segmentsOf, packetsFrom, leftFrom, openFrom, carriedOf}
 use Rattle.stream.proofs.Pieces.{onwards, rest-size, nonEmpty, whole-ends}

@@ -2,24 +2,22 @@
 use Prim.Native.Nat.{ℕ, _+_, _%_, _<_, _^_}
 use mathlib.Core.Path.{_≡_, refl, sym, ap, ap₂, _∙_}
 use mathlib.Core.Bool.{Bool, true, false, true≢false}
-use mathlib.Core.List.{List}
 use mathlib.Core.Option.{Option, none, some}
 use native.Mathlib.Omega.{arith}
 use borrow.Author.Tests.{eqb-true, eqb-false, eq-eqb, ne-eqb}
 use lib.Dec.{eqb}
 use Rattle.octets.specs.Octets.{Bytes}
 use Rattle.refusal.specs.declared.Refusal.{Refusal}
-use Rattle.refusal.specs.Checks.{Check, firstOf}
+use Rattle.refusal.specs.Checks.{firstOf}
 use Rattle.stream.specs.declared.Phase.{Phase}
 use Rattle.stream.specs.declared.Phase.the-variants.{First, Comment, Audio, Opened, Ended}
 use Rattle.stream.specs.Page.{Page, pageOf, continued, last, whole, rest}
 use Rattle.stream.specs.Readings.{Readings}
 use Rattle.stream.specs.State.{State, isFirst, expectingIn, expecting}
 use Rattle.stream.specs.Packets.{Seen, seen, audioPackets, lengthsOf}
-use Rattle.stream.specs.Rules.{wrongShape, timeChecks, checksOn, startOn, stampsOn, nextOn, verdict, after, stamped, Stamp}
-use Rattle.stream.specs.Feed.{Reader}
-use Rattle.stream.specs.Feedings.{Feeding, feedIn}
-use Rattle.stream.specs.Statements.{further, stateFurther, pageFurther, BytesFurther, viewOf, Congruence}
+use Rattle.stream.specs.Rules.{wrongShape, timeChecks, checksOn, startOn, stampsOn, nextOn, verdict, after, stamped}
+use Rattle.stream.specs.Feedings.{feedIn}
+use Rattle.stream.specs.Statements.{further, stateFurther, BytesFurther, viewOf, Congruence}
 use Rattle.stream.proofs.Step.{stateBy, tellBy, Stepped, stepped}
 
 same-further : (n a b : ℕ) → a < 2 ^ 32 → b < 2 ^ 32 → eqb (further n a) (further n b) ≡ eqb a b

@@ -1,12 +1,12 @@
 -- One feeding is one step of the state that decides (T0 and T2 unshifted). Assumes nothing.
 use Prim.Native.Nat.{ℕ, _+_, _-_, _≤_, _<_}
-use mathlib.Core.Path.{_≡_, refl, sym, ap, ap₂, subst, _∙_}
-use mathlib.Core.Bool.{Bool, true, false, _||_, false≢true}
+use mathlib.Core.Path.{_≡_, refl, sym, ap, subst, _∙_}
+use mathlib.Core.Bool.{Bool, true, false, _||_}
 use mathlib.Core.List.{List, [], _∷_, map}
 use mathlib.Core.Option.{Option, none, some}
 use native.Mathlib.Omega.{arith}
 use borrow.Author.Tests.{ltb-false, lt-leb}
-use lib.Dec.{ltb, leb}
+use lib.Dec.{ltb}
 use lib.ListN.{length, take}
 use Rattle.octets.specs.Pick.{pick}
 use Rattle.octets.specs.Octets.{Bytes}
@@ -20,13 +20,13 @@ use Rattle.stream.specs.declared.Pending.the-variants.{Nothing, Held, Dr
 use Rattle.stream.specs.declared.Core.{Core}
 use Rattle.stream.specs.Page.{Page, pageOf, whole, rest}
 use Rattle.stream.specs.Readings.{Readings}
-use Rattle.stream.specs.State.{Carried, nothing, dropped, held, State, expecting}
+use Rattle.stream.specs.State.{Carried, held, State, expecting}
 use Rattle.stream.specs.Packets.{Seen, seen, packetMax, isLong}
 use Rattle.stream.specs.Rules.{checksOn, Stamp, stamps, stampsOn, nextOn, verdict, after, stamped}
-use Rattle.stream.specs.Feed.{Reader, carriedIn, view, coreOf, stampOf, entries, entriesOn, Lent, isShort, listMax, firstPiece, appended, newRest, isLate, carryAfter, Fed, fedBy, feed}
-use Rattle.stream.specs.Feedings.{Feeding, readerBy, readerAfter, heldOf, tell}
+use Rattle.stream.specs.Feed.{Reader, carriedIn, view, coreOf, stampOf, entries, entriesOn, Lent, isShort, listMax, firstPiece, appended, isLate, carryAfter, Fed, fedBy, feed}
+use Rattle.stream.specs.Feedings.{readerBy, heldOf, tell}
 use Rattle.stream.specs.Statements.{Keeps, RefusalKeeps, CongruenceSame}
-use Rattle.stream.proofs.Pieces.{or-left, Fits, piece-fits, new-fits}
+use Rattle.stream.proofs.Pieces.{or-left, piece-fits, new-fits}
 use Rattle.stream.proofs.Carry.{length-carry, holds, isDone, not-long, backed, kept-held}
 
 -- ---- with room, and without

@@ -1,7 +1,7 @@
 -- T1: the state and the listings that a stream's pages alone determine. Assumes nothing.
-use Prim.Native.Nat.{ℕ, suc, _+_, _-_, _%_, _^_, _<_}
+use Prim.Native.Nat.{ℕ, suc, _+_, _-_, _%_, _^_}
 use mathlib.Core.Path.{_≡_, refl, sym, ap, ap₂, subst, _∙_}
-use mathlib.Core.Bool.{Bool, true, false}
+use mathlib.Core.Bool.{Bool, false}
 use mathlib.Core.List.{List, [], _∷_, map}
 use mathlib.Core.Option.{none}
 use native.Mathlib.Nat.{zero-add}
@@ -17,10 +17,10 @@ use Rattle.stream.specs.Readings.{Readings}
 use Rattle.stream.specs.State.{Carried, nothing, State, expecting}
 use Rattle.stream.specs.Packets.{seen, audioPackets, lengthsOf}
 use Rattle.stream.specs.Rules.{firstPacket, nextOn, verdict, after}
-use Rattle.stream.specs.Feed.{Reader, carriedIn, start, entries, entriesOn, countsOn, skipOn}
-use Rattle.stream.specs.Stream.{segmentsOf, packetsFrom, leftFrom, openFrom, openAfter, leftAfter, carriedOf, headOf, afterComment, audioPages, phaseOf, serialOf, marksFrom, marks, positionFrom, decodedIn, Listing, silent, listings}
+use Rattle.stream.specs.Feed.{start, entries, entriesOn, countsOn, skipOn}
+use Rattle.stream.specs.Stream.{segmentsOf, leftFrom, openFrom, openAfter, leftAfter, carriedOf, headOf, afterComment, audioPages, phaseOf, serialOf, marksFrom, marks, positionFrom, decodedIn, Listing, silent, listings}
 use Rattle.stream.specs.Feedings.{Feeding, finally, carryLeft, HandedOn, Shown, stream, bytesIn, bytesOf}
-use Rattle.stream.specs.Statements.{viewOf, Determined, StreamState}
+use Rattle.stream.specs.Statements.{viewOf, StreamState}
 use Rattle.stream.proofs.Segments.{begun-left, joins}
 use Rattle.stream.proofs.Joining.{afterAll}
 use Rattle.stream.proofs.Runs.{listingOn, skipIn, Lists, skipAll, Ran, runs}

@@ -14,14 +14,14 @@ use Rattle.stream.specs.Readings.{Readings}
 use Rattle.stream.specs.State.{nothing, dropped, State, expecting}
 use Rattle.stream.specs.Rules.{stampsOn, afterPosition, verdict, after, stamped}
 use Rattle.stream.specs.Feed.{view, start, openAt, stampOf, entriesOn}
-use Rattle.stream.specs.Stream.{segmentsOf, leftFrom, openFrom, openAfter, carriedOf, headOf, audioPages, serialOf, Listing}
-use Rattle.stream.specs.Feedings.{Feeding, HandedOn, Shown, stream, bytesIn, bytesOf, Marked, joinedFrom, joined, stood}
+use Rattle.stream.specs.Stream.{segmentsOf, leftFrom, openFrom, openAfter, carriedOf, headOf, serialOf, Listing}
+use Rattle.stream.specs.Feedings.{Feeding, HandedOn, Shown, stream, bytesOf, joinedFrom, joined, stood}
 use Rattle.stream.specs.Statements.{audioIn, openedIn, Demand3, Demand3State, ContinuedSays}
 use Rattle.stream.proofs.Step.{entries-stamps}
 use Rattle.stream.proofs.Segments.{Begun, begun-left, carried-open}
 use Rattle.stream.proofs.Meeting.{audio, isDropped, Near, both-none, cut-off, NotJoined}
 use Rattle.stream.proofs.Joining.{afterAll, toldAll, afterTold, Follows, ended-none, page-joined, page-state, sim, sim-state}
-use Rattle.stream.proofs.Runs.{Lists, Ran, runs, Second, second}
+use Rattle.stream.proofs.Runs.{Lists, runs, second}
 use Rattle.stream.proofs.AudioRun.{Expected, expected, audio-after}
 use Rattle.stream.proofs.HeaderRun.{Arrived}
 use Rattle.stream.proofs.Theorem1.{fresh, whole-stream}

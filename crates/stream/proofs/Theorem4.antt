@@ -1,5 +1,5 @@
 -- T4: the counts that were told are those of the samples, one by one, and have a closed form. Assumes nothing.
-use Prim.Native.Nat.{ℕ, _+_, _-_, _%_, _^_}
+use Prim.Native.Nat.{ℕ, _+_, _%_, _^_}
 use mathlib.Core.Path.{_≡_, refl, sym, ap, ap₂, subst, _∙_}
 use mathlib.Core.Bool.{Bool, true, false, not, _&&_}
 use mathlib.Core.List.{List, [], _∷_, map}
@@ -10,23 +10,21 @@ use lib.Dec.{ltb}
 use Prim.Native.Nat.{suc}
 use Rattle.octets.specs.Pick.{pick}
 use Rattle.octets.specs.Octets.{Bytes, total}
-use Rattle.refusal.specs.Checks.{firstOf}
 use Rattle.opus_head.specs.declared.Head.{Head}
 use Rattle.granule.specs.declared.Position.{Position}
 use Rattle.granule.specs.declared.Position.the-variants.{Unset, At}
 use Rattle.granule.specs.Samples.{tally}
 use Rattle.granule.specs.Judging.{tooSmall, from, hole}
 use Rattle.granule.proofs.Tallies.{tally-same, tally-parts}
-use Rattle.stream.specs.declared.Counts.{Counts}
-use Rattle.stream.specs.Page.{Page, pageOf, last, granuleOf, completes}
+use Rattle.stream.specs.Page.{pageOf, last, granuleOf, completes}
 use Rattle.stream.specs.Readings.{Readings}
-use Rattle.stream.specs.State.{nothing, State, expecting}
-use Rattle.stream.specs.Packets.{seen, lengthsOf}
-use Rattle.stream.specs.Rules.{afterPosition, verdict, after}
+use Rattle.stream.specs.State.{State, expecting}
+use Rattle.stream.specs.Packets.{seen}
+use Rattle.stream.specs.Rules.{afterPosition, verdict}
 use Rattle.stream.specs.Feed.{start, Entry}
-use Rattle.stream.specs.Stream.{segmentsOf, leftFrom, openFrom, carriedOf, headOf, afterComment, audioPages, Mark, decoded, lengthsFrom, markFrom, marksFrom, marks, holesFrom, holes, decodedIn, sampleTrimmed, sampleSkipped, sampleKept, countFrom, Listing, silent, entriesFrom, listingFrom, audioListings, commentListings, listings, serialOf}
-use Rattle.stream.specs.Feedings.{Feeding, HandedOn, Shown, stream, bytesIn, bytesOf}
-use Rattle.stream.specs.Statements.{StreamCounts, sumOf, keptListed}
+use Rattle.stream.specs.Stream.{segmentsOf, leftFrom, openFrom, carriedOf, headOf, afterComment, audioPages, Mark, decoded, lengthsFrom, markFrom, marksFrom, marks, holesFrom, decodedIn, sampleTrimmed, sampleSkipped, sampleKept, countFrom, Listing, silent, entriesFrom, listingFrom, audioListings, commentListings, listings, serialOf}
+use Rattle.stream.specs.Feedings.{Shown, stream, bytesIn, bytesOf}
+use Rattle.stream.specs.Statements.{StreamCounts}
 use Rattle.stream.proofs.Passed.{timed}
 use Rattle.stream.proofs.Segments.{Begun, begun-left}
 use Rattle.stream.proofs.Meeting.{audio}

@@ -1,7 +1,7 @@
 -- Starting, opening part way and feeding: what each tells, the next reader, and the end contents of the carry buffer and of
 -- the three lists, for any reader, bytes and lent memory (document 01, "Refusals by number"). Assumes nothing.
 use Prim.Native.Nat.{ℕ, _+_, _-_}
-use mathlib.Core.Bool.{Bool, true, false, not, _&&_, _||_}
+use mathlib.Core.Bool.{Bool, not, _||_}
 use mathlib.Core.List.{List, [], _∷_, _++_, map}
 use mathlib.Core.Option.{Option, none, some}
 use lib.Dec.{ltb, leb}

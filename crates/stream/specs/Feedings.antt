@@ -9,7 +9,6 @@ use lib.ListN.{take}
 use Rattle.octets.specs.Pick.{pick}
 use Rattle.octets.specs.Octets.{Bytes}
 use Rattle.refusal.specs.Told.{Told, gives, refuses, retold}
-use Rattle.stream.specs.declared.Counts.{Counts}
 use Rattle.stream.specs.declared.Pending.{Pending}
 use Rattle.stream.specs.declared.Pending.the-variants.{Nothing, Held, Dropped}
 use Rattle.stream.specs.Page.{pageOf, completes, last}

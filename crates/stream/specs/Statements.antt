@@ -7,19 +7,18 @@ use lib.ListN.{length, take, drop}
 use Rattle.octets.specs.Octets.{Bytes, Octets, total}
 use Rattle.refusal.specs.declared.Refusal.the-variants.{BadHead, BadMapping}
 use Rattle.refusal.specs.Checks.{_when_, firstOf}
-use Rattle.refusal.specs.Told.{Told, gives, refuses, decided}
+use Rattle.refusal.specs.Told.{gives, refuses, decided}
 use Rattle.ogg_page.specs.Reading.{readPage}
 use Rattle.opus_head.specs.Reading.{readHead}
 use Rattle.opus_packet.specs.Streams.{readPacket}
 use Rattle.granule.specs.declared.Position.the-variants.{Unset}
-use Rattle.stream.specs.declared.Core.{Core}
 use Rattle.stream.specs.declared.Counts.{Counts}
 use Rattle.stream.specs.Page.{Page, pageOf, continued}
 use Rattle.stream.specs.Readings.{Readings, readings}
 use Rattle.stream.specs.State.{State, isFirst}
 use Rattle.stream.specs.Rules.{pageChecks, packetChecks}
 use Rattle.stream.specs.Feed.{Reader, carriedIn, view, start, openAt, openPartWay, Lent, listMax, isShort, feed, Taken, Entry}
-use Rattle.stream.specs.Stream.{openAfter, leftAfter, carriedOf, headOf, audioPages, phaseOf, serialOf, Mark, marks, positionFrom, lastGranule, initial, holes, decodedIn, keptCount, skippedCount, trimmedCount, Listing, listings}
+use Rattle.stream.specs.Stream.{openAfter, leftAfter, carriedOf, headOf, audioPages, phaseOf, serialOf, Mark, marks, positionFrom, lastGranule, initial, holes, decodedIn, keptCount, skippedCount, trimmedCount, listings}
 use Rattle.stream.specs.Feedings.{Feeding, feedIn, readerAfter, finally, heldOf, carryLeft, HandedOn, Shown, stream, bytesIn, bytesOf, Marked, allOf, marked, RoomAtMarks, OthersRefused, tell, toldAtMarks, joined, stood}
 
 -- ---- T0: what a refusal leaves

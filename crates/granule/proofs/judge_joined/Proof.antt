@@ -1,5 +1,5 @@
 -- `granule::judge_joined` meets its contract. Assumes nothing.
-use mathlib.Core.Path.{_≡_, sym, ap, _∙_}
+use mathlib.Core.Path.{sym, ap, _∙_}
 use borrow.Author.Needs.{needs}
 use Rattle.refusal.specs.Told.{gives}
 use Rattle.granule.proofs.Placing.{no-position, small-joined, next-joined}

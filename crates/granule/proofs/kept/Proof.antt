@@ -1,6 +1,5 @@
 -- `granule::kept` meets its contract. Assumes nothing.
-use mathlib.Core.Path.{_≡_, sym}
-use Prim.Native.Nat.{_-_, min}
+use mathlib.Core.Path.{sym}
 use borrow.Author.Needs.{needs}
 use Rattle.granule.proofs.Counting.{closed-forms}
 use Rattle.granule.proofs.kept.Statement.{statement}

@@ -1,5 +1,4 @@
 -- `granule::place_first` meets its contract. Assumes nothing.
-use mathlib.Core.Path.{_≡_}
 use borrow.Author.Needs.{needs}
 use Rattle.granule.proofs.place_first.Statement.{statement}
 use Rattle.granule.proofs.place_first.Tie as tie
