@@ -91,9 +91,6 @@ module _ (R : Readings) (r : Reader) (old : Bytes) (f : Feeding) (ms : List Mark
   abbrev left : Bytes
   left = leftIn R r f old
 
-  abbrev shown : Fed → List Bytes
-  shown g = bytesOf (showAs (g .told) (g .entries) (f .bytes) (stream R gone (allOf ms)))
-
   -- refused
   passed-over : (isShort (f .lent) ≡ false → Agrees r (f .lent .carry) old) → isRefused (fed .told) ≡ true → Followed R gone left ms bs
       → Followed R r old (record { mark = false; fed = f } ∷ ms) bs
