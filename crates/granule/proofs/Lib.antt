@@ -1,0 +1,4 @@
+pub mod Tallies
+pub mod Counting
+pub mod Placing
+pub mod Cases

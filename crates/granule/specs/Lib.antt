@@ -1,0 +1,5 @@
+pub mod Samples
+pub mod Judging
+pub mod Code
+pub mod Cases
+pub mod Statements

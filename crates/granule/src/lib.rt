@@ -1,0 +1,140 @@
+// "Stamps and cuts" of an Ogg Opus stream (RFC 7845, 4) as arithmetic on one page.
+ghost use mathlib.Core.Path.{_≡_};
+ghost use Prim.Native.Nat.{_-_, min};
+ghost use Rattle.granule.specs.Samples.{keptOf};
+ghost use Rattle.granule.specs.Judging.{toldJudged, judge as judged, stampOf};
+ghost use Rattle.granule.specs.Code.{firstPlace};
+ghost use Rattle.granule.specs.declared.Position.the-variants.{Unset as NoneYet, Joined as PartWay, At as Known};
+use refusal::Refusal;
+
+// The last granule position of an audio page: none yet, none yet in a reader opened part way, or P.
+pub enum Position {
+    Unset,
+    Joined,
+    At(u64),
+}
+
+// Where the packets of a page lie: the position before them, the hole in front of them, how many of their samples are
+// trimmed, and the position that their stamps run from.
+pub struct Placed {
+    pub before: u64,
+    pub hole: u64,
+    pub trimmed: u64,
+    pub from: u64,
+}
+
+pub enum Judged {
+    Placed(Placed),
+    Refused(Refusal),
+}
+
+// The difference, 0 where it would be below.
+fn minus(a: u64, b: u64) -> u64
+    ensures { λ r. ⌜ r ≡ a - b ⌝ }
+{
+    if a < b { 0 } else { a - b }
+}
+
+fn least(a: u64, b: u64) -> u64
+    ensures { λ r. ⌜ r ≡ min a b ⌝ }
+{
+    if a < b { a } else { b }
+}
+
+// The first page of sound that a reader sees, where it is not refused.
+fn place_first(g: u64, d: u64) -> Placed
+    ensures { λ r. ⌜ r ≡ firstPlace g d ⌝ }
+{
+    let at = minus(g, d);
+    Placed {
+        before: at,
+        hole: 0,
+        trimmed: minus(d, g),
+        from: at,
+    }
+}
+
+fn judge_unset(preskip: u16, g: u64, d: u32, last: bool) -> Judged
+    ensures { λ r. ⌜ toldJudged r ≡ judged NoneYet preskip g d last ⌝ }
+{
+    if last {
+        if g < preskip as u64 {
+            return Judged::Refused(Refusal::BelowPreSkip);
+        }
+        return Judged::Placed(place_first(g, d as u64));
+    }
+    if g < d as u64 {
+        return Judged::Refused(Refusal::GranuleTooSmall);
+    }
+    Judged::Placed(place_first(g, d as u64))
+}
+
+fn judge_joined(preskip: u16, g: u64, d: u32, last: bool) -> Judged
+    ensures { λ r. ⌜ toldJudged r ≡ judged PartWay preskip g d last ⌝ }
+{
+    if last {
+        return Judged::Refused(Refusal::NoPosition);
+    }
+    if g < d as u64 {
+        return Judged::Refused(Refusal::GranuleTooSmall);
+    }
+    Judged::Placed(place_first(g, d as u64))
+}
+
+// `p` is at most `g`, and nothing is added to it, so that no value overflows.
+fn judge_at(p: u64, preskip: u16, g: u64, d: u32, last: bool) -> Judged
+    ensures { λ r. ⌜ toldJudged r ≡ judged (Known p) preskip g d last ⌝ }
+{
+    if g < p {
+        return Judged::Refused(Refusal::GranuleTooSmall);
+    }
+    let reach = g - p;
+    let size = d as u64;
+    if reach < size {
+        if last {
+            return Judged::Placed(Placed {
+                before: p,
+                hole: 0,
+                trimmed: size - reach,
+                from: p,
+            });
+        }
+        return Judged::Refused(Refusal::GranuleTooSmall);
+    }
+    Judged::Placed(Placed {
+        before: p,
+        hole: reach - size,
+        trimmed: 0,
+        from: g - size,
+    })
+}
+
+// Judges a page where an audio packet completes: its granule `g`, the samples `d` of its packets, and its last mark.
+pub fn judge(position: Position, preskip: u16, g: u64, d: u32, last: bool) -> Judged
+    ensures { λ r. ⌜ toldJudged r ≡ judged position preskip g d last ⌝ }
+{
+    match position {
+        Position::Unset => judge_unset(preskip, g, d, last),
+        Position::Joined => judge_joined(preskip, g, d, last),
+        Position::At(p) => judge_at(p, preskip, g, d, last),
+    }
+}
+
+// The stamp of a packet of `length` samples that begins after position `at`, modulo 2^64.
+pub fn stamp(at: u64, length: u32) -> u64
+    ensures { λ r. ⌜ r ≡ stampOf at length ⌝ }
+{
+    std::num::wrapping_add_u64(at, length as u64)
+}
+
+// How many of a packet's samples are kept: `skip` samples are still to skip, and the page has the granule `g`.
+pub fn kept(at: u64, length: u32, skip: u16, g: u64, last: bool) -> u64
+    ensures { λ r. ⌜ r ≡ keptOf skip last g at length ⌝ }
+{
+    let size = length as u64;
+    let low = least(skip as u64, size);
+    if last {
+        return minus(least(minus(g, at), size), low);
+    }
+    minus(size, low)
+}

@@ -1,0 +1,243 @@
+-- Starting, opening part way and feeding: what each tells, the next reader, and the end contents of the carry buffer and of
+-- the three lists, for any reader, bytes and lent memory (document 01, "Refusals by number"). Assumes nothing.
+use Prim.Native.Nat.{ℕ, _+_, _-_}
+use mathlib.Core.Bool.{Bool, not, _||_}
+use mathlib.Core.List.{List, [], _∷_, _++_, map}
+use mathlib.Core.Option.{Option, none, some}
+use lib.Dec.{ltb, leb}
+use lib.ListN.{length, take, drop}
+use Rattle.octets.specs.Pick.{pick}
+use Rattle.octets.specs.Octets.{Bytes, total, copied}
+use Rattle.refusal.specs.declared.Refusal.{Refusal}
+use Rattle.refusal.specs.declared.Refusal.the-variants.{ShortRoom, UnfitFields}
+use Rattle.refusal.specs.Checks.{Check, _when_, firstOf}
+use Rattle.refusal.specs.Told.{Told, gives, refuses, decided}
+use Rattle.refusal.specs.Numbers.{numberOf}
+use Rattle.opus_head.specs.declared.Head.{Head}
+use Rattle.opus_head.specs.Right.{rightHead}
+use Rattle.granule.specs.declared.Position.the-variants.{Unset, Joined}
+use Rattle.granule.specs.Samples.{keptOf, skippedOf, trimmedOf}
+use Rattle.granule.specs.Judging.{hole}
+use Rattle.stream.specs.declared.Phase.{Phase}
+use Rattle.stream.specs.declared.Phase.the-variants.{First, Comment, Audio, Opened, Ended}
+use Rattle.stream.specs.declared.Pending.{Pending}
+use Rattle.stream.specs.declared.Pending.the-variants.{Nothing, Held, Dropped}
+use Rattle.stream.specs.declared.Core.{Core}
+use Rattle.stream.specs.declared.Tally.{Tally}
+use Rattle.stream.specs.declared.Counts.{Counts}
+use Rattle.stream.specs.Page.{Page, pageOf, last, granuleOf, whole, rest}
+use Rattle.stream.specs.Readings.{Readings}
+use Rattle.stream.specs.State.{Carried, nothing, dropped, held, State, isComment, expecting}
+use Rattle.stream.specs.Packets.{Seen, seen, packetMax, lengthsOf}
+use Rattle.stream.specs.Rules.{sounds, checksOn, Stamp, startOn, nextOn}
+
+pub record Reader : Type 0 where
+  pub core : Core
+  pub tally : Tally
+
+-- ---- the state that decides: the core, and the carry bytes up to the held count
+
+abbrev pub carriedIn : Pending → Bytes → Carried
+carriedIn Nothing carry = nothing
+carriedIn (Held n) carry = held n (take n carry)
+carriedIn Dropped carry = dropped
+
+abbrev pub pendingOf : Carried → Pending
+pendingOf nothing = Nothing
+pendingOf dropped = Dropped
+pendingOf (held n h) = Held n
+
+abbrev pub view : Core → Bytes → State
+view k carry = record {
+  phase = k .phase;
+  carried = carriedIn (k .pending) carry;
+  position = k .position;
+  serial = k .serial;
+  next = k .next;
+  streams = k .streams;
+  preskip = k .preskip;
+}
+
+abbrev pub coreOf : State → Core
+coreOf s = record {
+  phase = s .phase;
+  pending = pendingOf (s .carried);
+  position = s .position;
+  serial = s .serial;
+  next = s .next;
+  streams = s .streams;
+  preskip = s .preskip;
+}
+
+-- ---- starting and opening part way
+
+abbrev pub start : Reader
+start = record {
+  core = record { phase = First; pending = Nothing; position = Unset; serial = 0; next = 0; streams = 0; preskip = 0 };
+  tally = record { skip = 0 };
+}
+
+-- nothing is skipped: kept then means not trimmed
+abbrev pub openAt : Head → Reader
+openAt h = record {
+  core = record {
+    phase = Opened;
+    pending = Nothing;
+    position = Joined;
+    serial = 0;
+    next = 0;
+    streams = h .streams;
+    preskip = h .preskip;
+  };
+  tally = record { skip = 0 };
+}
+
+abbrev pub openChecks : Head → List Check
+openChecks h = UnfitFields when not (rightHead h) ∷ []
+
+-- 23, or a reader
+unfoldable pub openPartWay : Head → Told Reader
+openPartWay h = decided (firstOf (openChecks h)) (openAt h)
+
+-- ---- the packets that a page lists: end stamp, length in samples, kept count
+
+pub record Entry : Type 0 where
+  pub end : ℕ
+  pub size : ℕ
+  pub kept : ℕ
+
+abbrev pub stampOf : Entry → Stamp
+stampOf e = record { end = e .end; size = e .size }
+
+-- packets of these lengths on a page with granule g, the first beginning after `at` with `skip` samples still to skip
+unfoldable pub entries : ℕ → Bool → ℕ → ℕ → List ℕ → List Entry
+entries skip end g at [] = []
+entries skip end g at (d ∷ ds) =
+    record { end = at + d; size = d; kept = keptOf skip end g at d } ∷ entries (skip - d) end g (at + d) ds
+
+unfoldable pub entriesOn : Readings → ℕ → State → Page → Seen → List Entry
+entriesOn R skip s p x = entries skip (last p) (granuleOf p) (startOn R s p x) (lengthsOf R s x)
+
+-- the page's own record, each sample counted
+unfoldable pub countsOn : Readings → ℕ → State → Page → Seen → Counts
+countsOn R skip s p x = record {
+  packets = length (lengthsOf R s x);
+  samples = total (lengthsOf R s x);
+  kept = keptOf skip (last p) (granuleOf p) (startOn R s p x) (total (lengthsOf R s x));
+  skipped = skippedOf skip (last p) (granuleOf p) (startOn R s p x) (total (lengthsOf R s x));
+  trimmed = trimmedOf (last p) (granuleOf p) (startOn R s p x) (total (lengthsOf R s x));
+  hole = pick (sounds s x) (hole (s .position) (granuleOf p) (total (lengthsOf R s x))) 0;
+}
+
+-- samples still to skip after the page: the first page sets them to the pre-skip
+abbrev pub skipAfter : Phase → ℕ → ℕ → ℕ → ℕ
+skipAfter First preskip skip d = preskip
+skipAfter Comment preskip skip d = skip
+skipAfter Audio preskip skip d = skip - d
+skipAfter Opened preskip skip d = skip - d
+skipAfter Ended preskip skip d = skip
+
+unfoldable pub skipOn : Readings → ℕ → State → Page → Seen → ℕ
+skipOn R skip s p x = skipAfter (s .phase) (nextOn R s p x .preskip) skip (total (lengthsOf R s x))
+
+-- ---- lent memory
+
+pub record Lent : Type 0 where
+  pub carry : Bytes
+  pub ends : List ℕ
+  pub sizes : List ℕ
+  pub kept : List ℕ
+
+abbrev pub listMax : ℕ
+listMax = 255
+
+-- 1
+unfoldable pub isShort : Lent → Bool
+isShort m =
+    ltb (length (m .carry)) packetMax
+    || (ltb (length (m .ends)) listMax || (ltb (length (m .sizes)) listMax || ltb (length (m .kept)) listMax))
+
+-- the first piece on the page
+abbrev pub firstPiece : List Bytes → Option Bytes → Bytes
+firstPiece [] none = []
+firstPiece [] (some b) = b
+firstPiece (b ∷ bs) r = b
+
+-- the continuing piece, or any piece of the comment packet, after the held bytes
+abbrev pub appended : Phase → Carried → Bytes → Bytes → Bytes
+appended ph nothing b carry = pick (isComment ph) (copied carry 0 b) carry
+appended ph dropped b carry = carry
+appended ph (held n h) b carry = copied carry n b
+
+-- the rest of the page, where it belongs to a new packet
+abbrev pub newRest : Carried → List Bytes → Option Bytes → Option Bytes
+newRest nothing bs r = r
+newRest dropped [] r = none
+newRest dropped (b ∷ bs) r = r
+newRest (held n h) [] r = none
+newRest (held n h) (b ∷ bs) r = r
+
+-- a new packet left unfinished, from place 0
+abbrev pub withRest : Option Bytes → Bytes → Bytes
+withRest none carry = carry
+withRest (some b) carry = copied carry 0 b
+
+-- the refusals under which the continuing piece is in the carry buffer: 12 to 19
+abbrev pub isLate : Refusal → Bool
+isLate n = leb 12 (numberOf n)
+
+-- what the carry buffer holds at the end, s being the state that expected the page
+unfoldable pub carryAfter : Option Refusal → State → Page → Bytes → Bytes
+carryAfter none s p carry =
+    withRest (newRest (s .carried) (whole p) (rest p)) (appended (s .phase) (s .carried) (firstPiece (whole p) (rest p)) carry)
+carryAfter (some n) s p carry =
+    pick (isLate n) (appended (s .phase) (s .carried) (firstPiece (whole p) (rest p)) carry) carry
+
+-- a list with a field of the entries in its first places, the others as they were
+abbrev pub listed : (Entry → ℕ) → List Entry → List ℕ → List ℕ
+listed field es old = map field es ++ drop (length es) old
+
+-- ---- feeding
+
+-- what an accepted page gives: the next reader, and the page's own record
+pub record Taken : Type 0 where
+  pub reader : Reader
+  pub counts : Counts
+
+pub record Fed : Type 0 where
+  pub told : Told Taken
+  pub entries : List Entry
+  pub lent : Lent
+
+-- s is the state before the page, t the one that expects it, x the page's packets
+abbrev pub fedBy : Option Refusal → Readings → Reader → Lent → State → Page → Seen → Fed
+fedBy none R r m t p x = record {
+  told = gives (record {
+    reader = record { core = coreOf (nextOn R t p x); tally = record { skip = skipOn R (r .tally .skip) t p x } };
+    counts = countsOn R (r .tally .skip) t p x;
+  });
+  entries = entriesOn R (r .tally .skip) t p x;
+  lent = record {
+    carry = carryAfter none t p (m .carry);
+    ends = listed (λ (e : Entry). e .end) (entriesOn R (r .tally .skip) t p x) (m .ends);
+    sizes = listed (λ (e : Entry). e .size) (entriesOn R (r .tally .skip) t p x) (m .sizes);
+    kept = listed (λ (e : Entry). e .kept) (entriesOn R (r .tally .skip) t p x) (m .kept);
+  };
+}
+fedBy (some n) R r m t p x = record {
+  told = refuses (numberOf n);
+  entries = [];
+  lent = record { carry = carryAfter (some n) t p (m .carry); ends = m .ends; sizes = m .sizes; kept = m .kept };
+}
+
+-- 1 to 19, in the order of document 01's table
+abbrev pub feedChecks : Readings → Lent → State → Bytes → Seen → List Check
+feedChecks R m t b x = ShortRoom when isShort m ∷ checksOn R t b x
+
+abbrev pub feedOn : Readings → Reader → Lent → State → Bytes → Seen → Fed
+feedOn R r m t b x = fedBy (firstOf (feedChecks R m t b x)) R r m t (pageOf b) x
+
+unfoldable pub feed : Readings → Reader → Lent → Bytes → Fed
+feed R r m b =
+    feedOn R r m (expecting (view (r .core) (m .carry)) (pageOf b)) b
+    (seen (expecting (view (r .core) (m .carry)) (pageOf b)) (pageOf b))

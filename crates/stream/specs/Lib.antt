@@ -1,0 +1,10 @@
+pub mod Page
+pub mod Readings
+pub mod State
+pub mod Packets
+pub mod Rules
+pub mod Feed
+pub mod Stream
+pub mod Feedings
+pub mod Statements
+pub mod Example

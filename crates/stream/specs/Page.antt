@@ -1,0 +1,62 @@
+-- A page as feeding sees it: its fields, its lacing values and its body, and the pieces of packets in it (RFC 3533, 5 and 6;
+-- document 01, "Page and lacing"). Assumes nothing.
+use Prim.Native.Nat.{ℕ, _/_, _%_}
+use mathlib.Core.Bool.{Bool, false, _||_}
+use mathlib.Core.List.{List, [], _∷_}
+use mathlib.Core.Option.{Option, none, some}
+use lib.Dec.{ltb, eqb}
+use Rattle.octets.specs.Pick.{pick}
+use Rattle.octets.specs.Octets.{Bytes}
+use Rattle.ogg_page.specs.declared.PageHeader.{PageHeader}
+use Rattle.ogg_page.specs.Page.{headerOf, lacingOf, bodyOf}
+use Rattle.ogg_page.specs.Lacing.{cutFrom, unfinishedFrom}
+
+pub record Page : Type 0 where
+  pub header : PageHeader
+  pub lacing : Bytes
+  pub body : Bytes
+
+unfoldable pub pageOf : Bytes → Page
+pageOf b = record { header = headerOf b; lacing = lacingOf b; body = bodyOf b }
+
+-- flags: 1 continued, 2 first, 4 last
+abbrev pub isContinued : ℕ → Bool
+isContinued flags = eqb (flags % 2) 1
+
+abbrev pub isFirstPage : ℕ → Bool
+isFirstPage flags = eqb (flags / 2 % 2) 1
+
+abbrev pub isLastPage : ℕ → Bool
+isLastPage flags = eqb (flags / 4 % 2) 1
+
+unfoldable pub continued : Page → Bool
+continued p = isContinued (p .header .flags)
+
+unfoldable pub last : Page → Bool
+last p = isLastPage (p .header .flags)
+
+abbrev pub granuleOf : Page → ℕ
+granuleOf p = p .header .granule
+
+-- a lacing value below 255 ends a packet
+unfoldable pub ends : Bytes → Bool
+ends [] = false
+ends (v ∷ l) = ltb v 255 || ends l
+
+-- a packet completes on the page
+unfoldable pub completes : Page → Bool
+completes p = ends (p .lacing)
+
+-- the body's pieces: those that end a packet here, in order, and the one after them that does not; n bytes belong to values
+-- already read, all of them 255
+abbrev pub wholeFrom : ℕ → Bytes → Bytes → List Bytes
+wholeFrom n l body = cutFrom n l body .whole
+
+abbrev pub restFrom : ℕ → Bytes → Bytes → Option Bytes
+restFrom n l body = pick (eqb (unfinishedFrom n l) 0) none (some (cutFrom n l body .rest))
+
+unfoldable pub whole : Page → List Bytes
+whole p = wholeFrom 0 (p .lacing) (p .body)
+
+unfoldable pub rest : Page → Option Bytes
+rest p = restFrom 0 (p .lacing) (p .body)

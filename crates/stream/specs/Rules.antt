@@ -1,0 +1,166 @@
+-- The rules of one page over the state that decides: which refusal, and what state follows (document 01, "Refusals by
+-- number", "Stamps and cuts", "Opened part way"). The carry buffer, the lists and the counts come in `Feed`. Assumes nothing.
+use Prim.Native.Nat.{ℕ, _+_, _-_, _%_, _^_}
+use mathlib.Core.Bool.{Bool, true, false, not, _&&_, _||_, Bool·beq}
+use mathlib.Core.List.{List, [], _∷_, _++_}
+use mathlib.Core.Option.{Option, none, some}
+use lib.Dec.{ltb, eqb}
+use Rattle.octets.specs.Pick.{pick}
+use Rattle.octets.specs.Octets.{Bytes, total}
+use Rattle.refusal.specs.declared.Refusal.{Refusal}
+use Rattle.refusal.specs.declared.Refusal.the-variants.{AfterEnd, NotOnePage, WrongChecksum, OtherSerial, OutOfSequence, WrongFlags, WrongContinued, PacketTooLong, HeaderShape, WrongGranule, BadHead, BadMapping, BadTags, IllegalPacket, MixedLengths}
+use Rattle.refusal.specs.Checks.{Check, _when_, firstOf}
+use Rattle.granule.specs.declared.Position.{Position}
+use Rattle.granule.specs.declared.Position.the-variants.{At}
+use Rattle.granule.specs.Judging.{judgeChecks, from}
+use Rattle.stream.specs.declared.Phase.{Phase}
+use Rattle.stream.specs.declared.Phase.the-variants.{First, Comment, Audio, Opened, Ended}
+use Rattle.stream.specs.Page.{Page, pageOf, isFirstPage, isLastPage, continued, last, granuleOf, whole, rest}
+use Rattle.stream.specs.Readings.{Readings}
+use Rattle.stream.specs.State.{State, isFirst, isComment, isEnded, inHeaders, unfinished, expecting}
+use Rattle.stream.specs.Packets.{Seen, seen, isLong, audioPackets, lengthsOf}
+
+-- ---- the tests
+
+-- 7: an unknown flag; a first mark absent on the first page or present later; an end mark on a header page
+unfoldable pub wrongFlags : Phase → ℕ → Bool
+wrongFlags ph flags =
+    ltb 7 flags || (not (Bool·beq (isFirstPage flags) (isFirst ph)) || (inHeaders ph && isLastPage flags))
+
+-- the page is one packet's piece and nothing else
+abbrev pub onePiece : List Bytes → Option Bytes → Bool
+onePiece [] none = false
+onePiece [] (some b) = true
+onePiece (b ∷ []) none = true
+onePiece (b ∷ []) (some c) = false
+onePiece (b ∷ (c ∷ bs)) r = false
+
+-- 10: the first page is not one completed packet; a page of the comment packet has anything else, or nothing
+unfoldable pub wrongShape : Phase → Page → Seen → Bool
+wrongShape ph p x =
+    (isFirst ph && not (onePiece (whole p) (rest p) && x .completes)) || (isComment ph && not (onePiece (whole p) (rest p)))
+
+abbrev pub allOnes : ℕ
+allOnes = 2 ^ 64 - 1
+
+-- the largest granule where a packet completes: 0 for a header
+abbrev pub granuleMax : Phase → ℕ
+granuleMax ph = pick (inHeaders ph) 0 (2 ^ 63 - 1)
+
+-- 11
+unfoldable pub wrongGranule : Phase → ℕ → Bool → Bool
+wrongGranule ph g done = pick done (ltb (granuleMax ph) g) (not (eqb g allOnes))
+
+abbrev pub firstPacket : List Bytes → Bytes
+firstPacket [] = []
+firstPacket (b ∷ bs) = b
+
+-- an audio packet completes
+abbrev pub sounds : State → Seen → Bool
+sounds s x = not (inHeaders (s .phase)) && x .completes
+
+-- ---- the checks in their order; s is the state that expects the page, x its packets
+
+-- 3 and 4
+abbrev pub pageChecks : Readings → Bytes → List Check
+pageChecks R b = NotOnePage when not (R .isPage b) ∷ WrongChecksum when not (R .isSealed b) ∷ []
+
+-- 5 to 8
+abbrev pub fieldChecks : State → Page → List Check
+fieldChecks s p =
+    OtherSerial when not (eqb (p .header .serial) (s .serial))
+    ∷ OutOfSequence when not (eqb (p .header .sequence) (s .next))
+    ∷ WrongFlags when wrongFlags (s .phase) (p .header .flags)
+    ∷ WrongContinued when not (Bool·beq (continued p) (unfinished (s .carried)))
+    ∷ []
+
+-- 9 to 11
+abbrev pub lacingChecks : State → Page → Seen → List Check
+lacingChecks s p x =
+    PacketTooLong when isLong (s .carried) (p .lacing)
+    ∷ HeaderShape when wrongShape (s .phase) p x
+    ∷ WrongGranule when wrongGranule (s .phase) (granuleOf p) (x .completes)
+    ∷ []
+
+-- 12 to 14
+abbrev pub headerChecks : Readings → State → Seen → List Check
+headerChecks R s x =
+    BadHead when (isFirst (s .phase) && not (R .isHead (firstPacket (x .packets))))
+    ∷ BadMapping when (isFirst (s .phase) && not (R .isMapped (firstPacket (x .packets))))
+    ∷ BadTags when (isComment (s .phase) && (x .completes && not (R .isTags (firstPacket (x .packets)))))
+    ∷ []
+
+-- for each audio packet 15 before 16
+unfoldable pub packetChecks : Readings → ℕ → List Bytes → List Check
+packetChecks R n [] = []
+packetChecks R n (b ∷ bs) = IllegalPacket when not (R .isLegal n b) ∷ MixedLengths when R .isMixed n b ∷ packetChecks R n bs
+
+-- 19, 18, 17, where an audio packet completes
+unfoldable pub timeChecks : Readings → State → Page → Seen → List Check
+timeChecks R s p x =
+    pick (sounds s x) (judgeChecks (s .position) (s .preskip) (granuleOf p) (total (lengthsOf R s x)) (last p)) []
+
+-- 2 to 14
+abbrev pub shapeChecks : Readings → State → Bytes → Seen → List Check
+shapeChecks R s b x =
+    (AfterEnd when isEnded (s .phase) ∷ [])
+    ++ (pageChecks R b ++ (fieldChecks s (pageOf b) ++ (lacingChecks s (pageOf b) x ++ headerChecks R s x)))
+
+-- 2 to 19
+unfoldable pub checksOn : Readings → State → Bytes → Seen → List Check
+checksOn R s b x =
+    shapeChecks R s b x ++ (packetChecks R (s .streams) (audioPackets s x) ++ timeChecks R s (pageOf b) x)
+
+-- ---- the stamps
+
+pub record Stamp : Type 0 where
+  pub end : ℕ
+  pub size : ℕ
+
+-- of packets of these lengths, the first beginning after a position
+unfoldable pub stamps : ℕ → List ℕ → List Stamp
+stamps at [] = []
+stamps at (d ∷ ds) = record { end = at + d; size = d } ∷ stamps (at + d) ds
+
+-- where the packets of the page begin
+unfoldable pub startOn : Readings → State → Page → Seen → ℕ
+startOn R s p x = from (s .position) (last p) (granuleOf p) (total (lengthsOf R s x))
+
+unfoldable pub stampsOn : Readings → State → Page → Seen → List Stamp
+stampsOn R s p x = stamps (startOn R s p x) (lengthsOf R s x)
+
+-- ---- the state that follows
+
+abbrev pub afterPhase : Phase → Bool → Bool → Phase
+afterPhase First done end = Comment
+afterPhase Comment done end = pick done Audio Comment
+afterPhase Audio done end = pick end Ended Audio
+afterPhase Opened done end = pick end Ended Audio
+afterPhase Ended done end = Ended
+
+abbrev pub afterPosition : Bool → Position → ℕ → Position
+afterPosition true position g = At g
+afterPosition false position g = position
+
+unfoldable pub nextOn : Readings → State → Page → Seen → State
+nextOn R s p x = record {
+  phase = afterPhase (s .phase) (x .completes) (last p);
+  carried = x .left;
+  position = afterPosition (sounds s x) (s .position) (granuleOf p);
+  serial = p .header .serial;
+  next = (p .header .sequence + 1) % 2 ^ 32;
+  streams = pick (isFirst (s .phase)) (R .headOf (firstPacket (x .packets)) .streams) (s .streams);
+  preskip = pick (isFirst (s .phase)) (R .headOf (firstPacket (x .packets)) .preskip) (s .preskip);
+}
+
+-- ---- one page
+
+-- 2 to 19
+unfoldable pub verdict : Readings → State → Bytes → Option Refusal
+verdict R s b = firstOf (checksOn R (expecting s (pageOf b)) b (seen (expecting s (pageOf b)) (pageOf b)))
+
+unfoldable pub after : Readings → State → Bytes → State
+after R s b = nextOn R (expecting s (pageOf b)) (pageOf b) (seen (expecting s (pageOf b)) (pageOf b))
+
+unfoldable pub stamped : Readings → State → Bytes → List Stamp
+stamped R s b = stampsOn R (expecting s (pageOf b)) (pageOf b) (seen (expecting s (pageOf b)) (pageOf b))
