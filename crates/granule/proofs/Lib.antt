@@ -1,4 +1,3 @@
 pub mod Tallies
 pub mod Counting
 pub mod Placing
-pub mod Cases

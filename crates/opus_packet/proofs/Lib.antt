@@ -1,4 +1,3 @@
-pub mod Cases
 pub mod Samples
 pub mod CodedLengths
 pub mod Framing

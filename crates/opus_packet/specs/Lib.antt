@@ -3,4 +3,3 @@ pub mod Packet
 pub mod Streams
 pub mod Code
 pub mod Statements
-pub mod Cases

@@ -1,0 +1,43 @@
+-- The demands hold: the theorems of the crates, with the real readings. Assumes nothing.
+use Rattle.ogg_crc.specs.Crc.{pageCrc}
+use Rattle.ogg_page.proofs.RoundTrip as oggPage
+use Rattle.opus_head.proofs.RoundTrip as opusHead
+use Rattle.opus_tags.proofs.RoundTrip as opusTags
+use Rattle.opus_tags.proofs.Together.{parts-together}
+use Rattle.opus_packet.proofs.Legal.{legal-lengths}
+use Rattle.stream.proofs.Step.{refusal-keeps}
+use Rattle.stream.proofs.Lists.{accepted-shows}
+use Rattle.stream.proofs.Real.{readings-agree, opens-stream}
+use Rattle.stream.proofs.Theorem1.{stream-determined}
+use Rattle.stream.proofs.Theorem3.{continued-says, demand-3}
+use Rattle.stream.proofs.Theorem4.{stream-counts}
+use Rattle.demands.specs.Demands.{R, Demand1, Demand2, Demand3, Demands}
+use Rattle.demands.proofs.Cases.{cases-hold}
+
+pub demand-one : Demand1
+demand-one = record { refused = refusal-keeps R; accepted = accepted-shows R }
+
+pub demand-two : Demand2
+demand-two = record {
+  pages = oggPage.reads-back;
+  pagesAgain = oggPage.writes-back;
+  heads = opusHead.reads-back;
+  headsAgain = opusHead.writes-back;
+  tags = opusTags.reads-back;
+  tagsAgain = parts-together;
+  packets = legal-lengths;
+  reading = readings-agree pageCrc;
+  cases = cases-hold;
+}
+
+pub demand-three : Demand3
+demand-three = record {
+  full = stream-determined R;
+  opens = opens-stream pageCrc;
+  second = λ F j M f. demand-3 R F j M (f .first) (f .second) (f .room) (f .pages) (f .others);
+  began = continued-says R;
+  counts = stream-counts R;
+}
+
+pub demands : Demands
+demands = record { one = demand-one; two = demand-two; three = demand-three }

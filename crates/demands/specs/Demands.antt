@@ -1,0 +1,79 @@
+-- The three demands, and nothing else, of the rules that the code is held to. `feed` is what a feeding tells and leaves
+-- (`stream`, `specs/Feed.antt`); a stream is the list of pages that a reader just started accepted. Assumes nothing.
+use Prim.Native.Nat.{ℕ, _<_}
+use mathlib.Core.Path.{_≡_}
+use mathlib.Core.List.{List, [], _∷_}
+use lib.ListN.{length, drop}
+use Rattle.octets.specs.Octets.{Bytes, Octets}
+use Rattle.refusal.specs.Told.{gives, refuses}
+use Rattle.ogg_crc.specs.Crc.{pageCrc}
+use Rattle.ogg_page.specs.Statements as oggPage
+use Rattle.opus_head.specs.Statements as opusHead
+use Rattle.opus_tags.specs.Statements as opusTags
+use Rattle.opus_packet.specs.Statements as opusPacket
+use Rattle.stream.specs.Page.{pageOf, continued}
+use Rattle.stream.specs.Readings.{Readings, readings}
+use Rattle.stream.specs.Feed.{Reader, start, openPartWay, Lent, feed, Taken}
+use Rattle.stream.specs.Stream.{headOf, marks}
+use Rattle.stream.specs.Feedings.{Feeding, finally, carryLeft, HandedOn, Shown, stream, bytesOf, Marked, allOf, marked, RoomAtMarks, OthersRefused, toldAtMarks, joined}
+use Rattle.stream.specs.Statements.{Keeps, Shows, Agree, AllOctets, Determined, Counted, audioIn, beganBefore, openedIn}
+use Rattle.demands.specs.Cases.{CasesHold}
+
+-- the readings of pages, headers, comment headers and packets
+abbrev pub R : Readings
+R = readings pageCrc
+
+-- the stream that a list of feedings gives
+abbrev pub streamOf : List Feeding → List Shown
+streamOf F = stream R start F
+
+-- Demand 1. Whatever reader, lent memory and bytes a feeding gets, it tells one number or accepts. A refusal leaves the reader
+-- and the lists, and of the carry buffer the held bytes; a number below 12 leaves all of it. An accepted page leaves its
+-- entries in the first places of the lists.
+pub record Demand1 : Type 0 where
+  pub refused : (r : Reader) (m : Lent) (b : Bytes) (n : ℕ) → feed R r m b .told ≡ refuses n → Keeps r m (feed R r m b .lent) n
+  pub accepted : (r : Reader) (m : Lent) (b : Bytes) (t : Taken) → Octets b → feed R r m b .told ≡ gives t
+      → Shows m (feed R r m b .lent) (feed R r m b .entries) (t .counts)
+
+-- Demand 2. What the writers write reads back as the same fields; what was read is written back as the same bytes; feeding
+-- reads by the same rules as reading alone; legal packets are those of RFC 6716, and the cases on paper come out.
+pub record Demand2 : Type 0 where
+  pub pages : oggPage.ReadsBack
+  pub pagesAgain : oggPage.WritesBack
+  pub heads : opusHead.ReadsBack
+  pub headsAgain : opusHead.WritesBack
+  pub tags : opusTags.ReadsBack
+  pub tagsAgain : opusTags.PartsTogether
+  pub packets : opusPacket.LegalLengths
+  pub reading : Agree pageCrc
+  pub cases : CasesHold
+
+-- the feedings to the full reader, and those to a second one, opened with the stream's header record: each gets the reader, and
+-- the held bytes, as the last left them; those marked are the stream from its audio page j on, and have the room asked; the
+-- others are refused
+pub record Followed (F : List Feeding) (j : ℕ) (M : List Marked) : Type 0 where
+  pub first : HandedOn R start [] F
+  pub second : HandedOn R (openedIn R F) [] (allOf M)
+  pub room : RoomAtMarks M
+  pub pages : marked M ≡ bytesOf (drop j (audioIn R F))
+  pub others : OthersRefused R (openedIn R F) M
+
+-- Demand 3. After any list of feedings the full reader is where the stream's pages alone put it, and told of them what they
+-- alone determine. A second reader can be opened with the stream's header record. At any audio page on, it tells what the full
+-- reader listed, but for a packet that began before, or 19 on a last page with nothing to stand on. The kept counts are those
+-- of the samples, one by one, and have the closed form.
+pub record Demand3 : Type 0 where
+  pub full : (F : List Feeding) → HandedOn R start [] F → Determined R (streamOf F) (finally R start F) (carryLeft R start [] F)
+  pub opens : (F : List Feeding) → AllOctets F → HandedOn R start [] F → 0 < length (streamOf F)
+      → openPartWay (headOf R (bytesOf (streamOf F))) ≡ gives (openedIn R F)
+  pub second : (F : List Feeding) (j : ℕ) (M : List Marked) → Followed F j M
+      → toldAtMarks R (openedIn R F) M ≡ joined (beganBefore R F j) (drop j (audioIn R F))
+  pub began : (F : List Feeding) (j : ℕ) (x : Shown) (later : List Shown) → HandedOn R start [] F → drop j (audioIn R F) ≡ x ∷ later
+      → continued (pageOf (x .bytes)) ≡ beganBefore R F j
+  pub counts : (F : List Feeding) → HandedOn R start [] F
+      → Counted (streamOf F) (headOf R (bytesOf (streamOf F)) .preskip) (marks R (bytesOf (streamOf F)))
+
+pub record Demands : Type 0 where
+  pub one : Demand1
+  pub two : Demand2
+  pub three : Demand3

@@ -1,0 +1,1 @@
+// No code: the demands, in `specs/Demands.antt`.
