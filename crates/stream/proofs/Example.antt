@@ -80,9 +80,11 @@ reads : (p : Page) → fitsIn (p .header) ≡ true → writeTold (p .header) (p 
     → Reads (written p) p
 unfolding readings pageOf readPage written
 reads p fits told =
-    let k : ReadsAs (written p) (p .header) (p .lacing) (p .body) = reads-back (p .header) (p .lacing) (p .body) (output p) (fit (p .header) fits) told in
+    let k : ReadsAs (written p) (p .header) (p .lacing) (p .body) = reads-back (p .header) (p .lacing) (p .body) (output p)
+    (fit (p .header) fits) told in
     let found = no-refusal (firstOf (readChecks pageCrc (written p))) (headerOf (written p)) (p .header) (k .header) in
-    let one = passed NotOnePage (not (isOnePage (written p))) (WrongChecksum when not (eqb (pageCrc (written p)) (checksumOf (written p))) ∷ []) (found .0) in
+    let one = passed NotOnePage (not (isOnePage (written p)))
+    (WrongChecksum when not (eqb (pageCrc (written p)) (checksumOf (written p))) ∷ []) (found .0) in
     let two = passed WrongChecksum (not (eqb (pageCrc (written p)) (checksumOf (written p)))) [] (one .1) in
     record {
       page = rw (found .1, k .lacing, k .body) refl;
@@ -298,7 +300,8 @@ octets-copied d at s o p = by (leb (at + length s) (length d))
     by true =
         record {
           below = octets-append (take at d ++ take (length s) s) (drop (at + length s) d)
-              (record { below = octets-append (take at d) (take (length s) s) (octets-take at d o) (octets-take (length s) s p) }) (octets-drop (at + length s) d o);
+              (record { below = octets-append (take at d) (take (length s) s) (octets-take at d o) (octets-take (length s) s p) })
+              (octets-drop (at + length s) d o);
         }
     by false = o
 
@@ -313,11 +316,15 @@ zeros n = record { below = zero-below n }
 pub page-octets : (p : Page) → allBelow (startOf (p .header) (length (p .lacing)) ++ p .lacing ++ p .body) ≡ true → Octets (written p)
 unfolding written writeOut pageBytes sealed
 page-octets p e =
-    octets-take (pageSize (p .lacing) (p .body)) _ (by (firstOf (writeChecks (p .header) (p .lacing) (p .body) (length (replicate (pageSize (p .lacing) (p .body)) 0)))))
+    octets-take (pageSize (p .lacing) (p .body)) _
+    (by (firstOf (writeChecks (p .header) (p .lacing) (p .body) (length (replicate (pageSize (p .lacing) (p .body)) 0)))))
   where
     by : (v : Option Refusal) → Octets (writtenBy v (replicate (pageSize (p .lacing) (p .body)) 0) (pageBytes (p .header) (p .lacing) (p .body)))
     by none =
-        octets-copied (replicate (pageSize (p .lacing) (p .body)) 0) 0 (pageBytes (p .header) (p .lacing) (p .body)) (zeros (pageSize (p .lacing) (p .body)))
-        (octets-copied (startOf (p .header) (length (p .lacing)) ++ p .lacing ++ p .body) 22 (octets 4 (pageCrc (startOf (p .header) (length (p .lacing)) ++ p .lacing ++ p .body)))
-        (record { below = below-octets (startOf (p .header) (length (p .lacing)) ++ p .lacing ++ p .body) e }) (octets-below 4 (pageCrc (startOf (p .header) (length (p .lacing)) ++ p .lacing ++ p .body))))
+        octets-copied (replicate (pageSize (p .lacing) (p .body)) 0) 0 (pageBytes (p .header) (p .lacing) (p .body))
+        (zeros (pageSize (p .lacing) (p .body)))
+        (octets-copied (startOf (p .header) (length (p .lacing)) ++ p .lacing ++ p .body) 22
+        (octets 4 (pageCrc (startOf (p .header) (length (p .lacing)) ++ p .lacing ++ p .body)))
+        (record { below = below-octets (startOf (p .header) (length (p .lacing)) ++ p .lacing ++ p .body) e })
+        (octets-below 4 (pageCrc (startOf (p .header) (length (p .lacing)) ++ p .lacing ++ p .body))))
     by (some n) = zeros (pageSize (p .lacing) (p .body))

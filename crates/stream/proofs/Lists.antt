@@ -33,7 +33,8 @@ unfolding cutFrom
 whole-few n [] body = omega arith
 whole-few n (v ∷ l) body = by (ltb v 255) (whole-few 0 l (drop (n + v) body)) (whole-few (n + v) l body)
   where
-    by : (t : Bool) → length (wholeFrom 0 l (drop (n + v) body)) ≤ length l → length (wholeFrom (n + v) l body) ≤ length l → length (onwards t (n + v) l body .whole) ≤ length (v ∷ l)
+    by : (t : Bool) → length (wholeFrom 0 l (drop (n + v) body)) ≤ length l → length (wholeFrom (n + v) l body) ≤ length l
+        → length (onwards t (n + v) l body .whole) ≤ length (v ∷ l)
     by true anew again = omega arith
     by false anew again = omega arith
 
@@ -64,7 +65,8 @@ audio-few R s b o = by (inHeaders (s .phase))
   where
     all : length (join (s .carried) (whole (pageOf b)) (rest (pageOf b)) .packets) ≤ listMax
     all =
-        let a : length (join (s .carried) (whole (pageOf b)) (rest (pageOf b)) .packets) ≤ length (whole (pageOf b)) = join-few (s .carried) (whole (pageOf b)) (rest (pageOf b)) in
+        let a : length (join (s .carried) (whole (pageOf b)) (rest (pageOf b)) .packets) ≤ length (whole (pageOf b)) = join-few (s .carried)
+        (whole (pageOf b)) (rest (pageOf b)) in
         let c : length (whole (pageOf b)) ≤ length (pageOf b .lacing) = whole-few 0 (pageOf b .lacing) (pageOf b .body) in
         let d : length (pageOf b .lacing) ≤ listMax = lacing-few b o in
         omega arith
@@ -88,7 +90,8 @@ has-first f es old = record {
 
 shows-by : (R : Readings) (r : Reader) (m : Lent) (b : Bytes) (t : Taken) (v : Option Refusal) → Octets b
     → fedBy v R r m (expected r (m .carry) b) (pageOf b) (saw r (m .carry) b) .told ≡ gives t
-    → Shows m (fedBy v R r m (expected r (m .carry) b) (pageOf b) (saw r (m .carry) b) .lent) (fedBy v R r m (expected r (m .carry) b) (pageOf b) (saw r (m .carry) b) .entries) (t .counts)
+    → Shows m (fedBy v R r m (expected r (m .carry) b) (pageOf b) (saw r (m .carry) b) .lent)
+    (fedBy v R r m (expected r (m .carry) b) (pageOf b) (saw r (m .carry) b) .entries) (t .counts)
 unfolding entriesOn countsOn
 shows-by R r m b t none o e =
     let s : State = expected r (m .carry) b in

@@ -13,8 +13,7 @@ use Rattle.octets.specs.Numbers.{value, octets, number}
 use Rattle.refusal.specs.declared.Refusal.{Refusal}
 use Rattle.refusal.specs.Told.{gives}
 use Rattle.ogg_crc.specs.Crc.{pageCrc}
-use Rattle.refusal.specs.Checks.{firstOf}
-use Rattle.ogg_page.specs.Writing.{startOf, writeTold}
+use Rattle.ogg_page.specs.Writing.{startOf}
 use Rattle.opus_head.specs.declared.Head.{Head}
 use Rattle.opus_head.specs.Fields.{streamsOf, headOf as fieldsOf}
 use Rattle.opus_packet.specs.Frames.{configSamples, frameSamples, coded, codedTimes, paddingFrom}
@@ -30,7 +29,7 @@ use Rattle.stream.specs.Feed.{view, start, openAt, Taken, Fed, fedBy, fe
 use Rattle.stream.specs.Stream.{segments, segmentsOf, packetsFrom, leftFrom, openFrom, openAfter, headOf, afterComment, audioPages, Mark, markFrom, marksFrom, marks, initial, holesFrom, countFrom}
 use Rattle.stream.specs.Feedings.{Shown, stream, bytesIn, bytesOf, stood}
 use Rattle.stream.specs.Statements.{pageFurther, audioIn, openedIn}
-use Rattle.stream.specs.Example.{R, headPage, tagsPage, firstPage, middlePage, holePage, lastPage, written, firstPlan, secondPlan, room, F, M, soundMarks, Meets, lentWith, shiftedPage, MeetsAlone}
+use Rattle.stream.specs.Example.{R, headPage, tagsPage, firstPage, middlePage, holePage, lastPage, written, firstPlan, secondPlan, room, F, M, soundMarks, Meets, lentWith, MeetsAlone}
 use Rattle.stream.proofs.Step.{expected, saw, feeds, feeds-short}
 use Rattle.stream.proofs.Clear.{some≢none}
 use Rattle.stream.proofs.Theorem1.{fresh}
@@ -121,10 +120,12 @@ told-is = rw (steps .opened .passes, steps .opened .follows, steps .opened .list
 -- ---- the marks
 
 mark-on : (n : ℕ) (h b : Bytes) (p : Page) (bs : List Bytes) → Reads b p
-    → marksFrom R n h (b ∷ bs) ≡ pick (completes p) (markFrom R n h p ∷ marksFrom R n (leftFrom h (segmentsOf p)) bs) (marksFrom R n (leftFrom h (segmentsOf p)) bs)
+    → marksFrom R n h (b ∷ bs) ≡ pick (completes p) (markFrom R n h p ∷ marksFrom R n (leftFrom h (segmentsOf p)) bs)
+    (marksFrom R n (leftFrom h (segmentsOf p)) bs)
 unfolding marksFrom
 mark-on n h b p bs k =
-    ap (λ (q : Page). pick (completes q) (markFrom R n h q ∷ marksFrom R n (leftFrom h (segmentsOf q)) bs) (marksFrom R n (leftFrom h (segmentsOf q)) bs)) (k .page)
+    ap (λ (q : Page). pick (completes q) (markFrom R n h q ∷ marksFrom R n (leftFrom h (segmentsOf q)) bs)
+    (marksFrom R n (leftFrom h (segmentsOf q)) bs)) (k .page)
 
 sounds-are : marksFrom R 1 [] audioBytes ≡ soundMarks
 unfolding marksFrom segmentsOf segments packetsFrom leftFrom completes ends last readings packetLengths parse shapeOf frameSamples configSamples coded codedTimes countedShape paddingFrom total
@@ -193,7 +194,8 @@ meets =
 -- ---- the others
 
 told-by : (v : Option Refusal) → v ≡ none
-    → (t : Taken) × (fedBy v R start (lentWith room) (expected start room (written headPage)) (pageOf (written headPage)) (saw start room (written headPage)) .told ≡ gives t)
+    → (t : Taken) × (fedBy v R start (lentWith room) (expected start room (written headPage)) (pageOf (written headPage))
+    (saw start room (written headPage)) .told ≡ gives t)
 told-by none e = (_, refl)
 told-by (some n) e = absurd (some≢none e)
 
