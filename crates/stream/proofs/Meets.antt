@@ -39,7 +39,8 @@ use Rattle.stream.proofs.Theorem4.{after-same}
 use Rattle.stream.proofs.HeaderRun.{id-bytes}
 use Rattle.stream.proofs.Real.{opens-stream}
 use Rattle.stream.proofs.Plan.{roomy, lacks, Goes, wanted, PlanOctets, Followed, followed, plan-octets}
-use Rattle.stream.proofs.Example.{Reads, pages, stamp, q0, steps, second-goes, room-enough, first-followed, page-octets}
+use Rattle.stream.proofs.Example.{Reads, pages, stamp, q0, steps, second-goes, room-enough, first-followed}
+use Rattle.stream.proofs.WrittenOctets.{page-octets}
 
 abbrev S : List Shown
 S = stream R start F

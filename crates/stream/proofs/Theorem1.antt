@@ -114,8 +114,8 @@ whole R (x ∷ xs) f =
 pub whole-stream : (R : Readings) (F : List Feeding) → HandedOn R start [] F → Whole R (stream R start F)
 whole-stream R F handed = whole R (stream R start F) (runs R F start [] handed .lists)
 
-pub stream-determined : StreamState
-stream-determined R F handed =
+pub stream-state : StreamState
+stream-state R F handed =
     let S : List Shown = stream R start F in
     let ran : Ran R fresh 0 S (finally R start F) (carryLeft R start [] F) = runs R F start [] handed in
     let w : Whole R S = whole R S (ran .lists) in
