@@ -8,7 +8,7 @@ use Rattle.opus_packet.proofs.Legal.{legal-lengths}
 use Rattle.stream.proofs.Step.{refusal-keeps}
 use Rattle.stream.proofs.Lists.{accepted-shows}
 use Rattle.stream.proofs.Real.{readings-agree, opens-stream}
-use Rattle.stream.proofs.Theorem1.{stream-determined}
+use Rattle.stream.proofs.Theorem1.{stream-state}
 use Rattle.stream.proofs.Theorem3.{continued-says, demand-3}
 use Rattle.stream.proofs.Theorem4.{stream-counts}
 use Rattle.demands.specs.Demands.{R, Demand1, Demand2, Demand3, Demands}
@@ -32,7 +32,7 @@ demand-two = record {
 
 pub demand-three : Demand3
 demand-three = record {
-  full = stream-determined R;
+  full = stream-state R;
   opens = opens-stream pageCrc;
   second = λ F j M f. demand-3 R F j M (f .first) (f .second) (f .room) (f .pages) (f .others);
   began = continued-says R;

@@ -148,6 +148,7 @@ pub placed-fits : PlacedFits
 unfolding judge
 placed-fits position preskip g d last w e =
     let found = no-refusal (firstOf (judgeChecks position preskip g d last)) (placed position last g d) w e in
-    let third = passed NoPosition (last && isJoined position) (BelowPreSkip when (last && (isUnset position && ltb g preskip)) ∷ GranuleTooSmall when tooSmall position last g d ∷ []) (found .0) .1 in
+    let third = passed NoPosition (last && isJoined position)
+    (BelowPreSkip when (last && (isUnset position && ltb g preskip)) ∷ GranuleTooSmall when tooSmall position last g d ∷ []) (found .0) .1 in
     let fourth = passed BelowPreSkip (last && (isUnset position && ltb g preskip)) (GranuleTooSmall when tooSmall position last g d ∷ []) third .1 in
     subst (Fits g d) (found .1) (fits-placed position last g d (passed GranuleTooSmall (tooSmall position last g d) [] fourth .0))

@@ -1,4 +1,5 @@
--- What a private function promises, in the code's own words; `proofs/Placing.antt` has the laws to the rules. Assumes nothing.
+-- What a private function promises, in the code's own words; `proofs/Placing.antt` has the laws to the rules. Assumes
+-- nothing.
 use Prim.Native.Nat.{ℕ, _-_}
 use Rattle.granule.specs.declared.Placed.{Placed}
 

@@ -126,12 +126,15 @@ module _ (R : Readings) (head : Head) (b : Bytes) (o : Bool) (h : Bytes) (positi
 
   -- the state that follows
   pub audio-after : verdict R now b ≡ none
-      → after R now b ≡ audio (last page) (carriedOf (openFrom o (segmentsOf page)) (leftFrom h (segmentsOf page))) (afterPosition (completes page) position (granuleOf page)) serial ((next + 1) % 2 ^ 32) head
+      → after R now b ≡ audio (last page) (carriedOf (openFrom o (segmentsOf page)) (leftFrom h (segmentsOf page)))
+      (afterPosition (completes page) position (granuleOf page)) serial ((next + 1) % 2 ^ 32) head
   unfolding after nextOn expecting seen
   audio-after v =
       let e : Expected now page = expected R now b v in
-      ap₂ (λ (k : Carried) (t : Bool). audio (last page) k (afterPosition t position (granuleOf page)) (page .header .serial) ((page .header .sequence + 1) % 2 ^ 32) head) (joins o h page begun .left) here-completes
-      ∙ ap₂ (λ (s q : ℕ). audio (last page) (carriedOf (openFrom o (segmentsOf page)) (leftFrom h (segmentsOf page))) (afterPosition (completes page) position (granuleOf page)) s ((q + 1) % 2 ^ 32) head) (e .serial) (e .sequence)
+      ap₂ (λ (k : Carried) (t : Bool). audio (last page) k (afterPosition t position (granuleOf page)) (page .header .serial)
+      ((page .header .sequence + 1) % 2 ^ 32) head) (joins o h page begun .left) here-completes
+      ∙ ap₂ (λ (s q : ℕ). audio (last page) (carriedOf (openFrom o (segmentsOf page)) (leftFrom h (segmentsOf page)))
+      (afterPosition (completes page) position (granuleOf page)) s ((q + 1) % 2 ^ 32) head) (e .serial) (e .sequence)
 
   pub audio-skip : (skip : ℕ) → skipIn R skip now b ≡ skip - total here
   unfolding skipOn expecting
@@ -175,13 +178,16 @@ module _ (R : Readings) (head : Head) (b : Bytes) (o : Bool) (h : Bytes) (positi
     hole = pick (completes page) (hole position (granuleOf page) (total here)) 0;
   }
 
-  counts-here : (k n : ℕ) → countsOn R (k - n) now page (seen now page) ≡ countsFrom k n mark start (pick (completes page) (hole position (granuleOf page) (decoded mark)) 0)
+  counts-here : (k n : ℕ) → countsOn R (k - n) now page (seen now page)
+      ≡ countsFrom k n mark start (pick (completes page) (hole position (granuleOf page) (decoded mark)) 0)
   unfolding countsOn countsBy countsWith
   counts-here k n =
       ap₂ (λ (at : ℕ) (ds : List ℕ). countsBy (k - n) at ds (seen now page .completes)) start-same here-lengths
       ∙ ap (countsBy (k - n) start here) here-completes
-      ∙ ap₂ (λ (a s : ℕ). countsWith a s (trimmedOf (last page) (granuleOf page) start (total here))) (kept-same k n mark start (total here)) (skipped-same k n mark start (total here))
-      ∙ ap (countsWith (tally (sampleKept k n mark start) (total here)) (tally (sampleSkipped k n mark start) (total here))) (trimmed-same n mark start (total here))
+      ∙ ap₂ (λ (a s : ℕ). countsWith a s (trimmedOf (last page) (granuleOf page) start (total here))) (kept-same k n mark start (total here))
+      (skipped-same k n mark start (total here))
+      ∙ ap (countsWith (tally (sampleKept k n mark start) (total here)) (tally (sampleSkipped k n mark start) (total here)))
+      (trimmed-same n mark start (total here))
 
   pub audio-listing : (k n : ℕ) → listingOn R (k - n) now b ≡ listingFrom k position n (completes page) mark
   unfolding expecting
@@ -199,7 +205,8 @@ position-from g (m ∷ ms) = refl
 
 pub record Audio (R : Readings) (head : Head) (xs : List Shown) (ended o : Bool) (h : Bytes) (position : Position) (serial next n : ℕ) : Type 0 where
   pub state : afterAll R (audio ended (carriedOf o h) position serial next head) (bytesOf xs)
-      ≡ audio (endedAfter ended (bytesOf xs)) (carriedOf (openAfter o (bytesOf xs)) (leftAfter h (bytesOf xs))) (positionFrom position (marksFrom R (head .streams) h (bytesOf xs))) serial ((next + length xs) % 2 ^ 32) head
+      ≡ audio (endedAfter ended (bytesOf xs)) (carriedOf (openAfter o (bytesOf xs)) (leftAfter h (bytesOf xs)))
+      (positionFrom position (marksFrom R (head .streams) h (bytesOf xs))) serial ((next + length xs) % 2 ^ 32) head
   pub skips : skipAll R (audio ended (carriedOf o h) position serial next head) (head .preskip - n) (bytesOf xs)
       ≡ head .preskip - (n + decodedIn (marksFrom R (head .streams) h (bytesOf xs)))
   pub listings : map (λ (x : Shown). x .listing) xs ≡ audioListings R head h position n (bytesOf xs)
@@ -223,7 +230,8 @@ unfolding afterAll skipAll endedAfter openAfter leftAfter marksFrom decodedIn au
 audio-run R head [] ended o h position serial next n k small f =
     let z : (next + 0) % 2 ^ 32 ≡ next = omega arith in
     record { state = ap (λ (q : ℕ). audio ended (carriedOf o h) position serial q head) (sym z); skips = ap (λ (d : ℕ). head .preskip - d) (sym (add-zero n)); listings = refl }
-audio-run R head (x ∷ xs) true o h position serial next n k small f = absurd (ended-none R head (carriedOf o h) position serial next (x .bytes) (f .0))
+audio-run R head (x ∷ xs) true o h position serial next n k small f = absurd
+    (ended-none R head (carriedOf o h) position serial next (x .bytes) (f .0))
 audio-run R head (x ∷ xs) false o h position serial next n k small f =
     let b : Bytes = x .bytes in
     let p : Page = pageOf b in
@@ -236,7 +244,8 @@ audio-run R head (x ∷ xs) false o h position serial next n k small f =
     let then : State = audio (last p) (carriedOf o′ h′) at serial ((next + 1) % 2 ^ 32) head in
     let ms : List Mark = marksFrom R (head .streams) h′ bs in
     let state : after R now b ≡ then = audio-after R head b o h position serial next k (f .0) in
-    let skip : skipIn R (head .preskip - n) now b ≡ head .preskip - (n + d) = audio-skip R head b o h position serial next k (head .preskip - n) ∙ less (head .preskip) n d in
+    let skip : skipIn R (head .preskip - n) now b
+    ≡ head .preskip - (n + d) = audio-skip R head b o h position serial next k (head .preskip - n) ∙ less (head .preskip) n d in
     let later : Lists R then (head .preskip - (n + d)) xs =
     subst (λ (j : ℕ). Lists R then j xs) skip (subst (λ (t : State). Lists R t (skipIn R (head .preskip - n) now b) xs) state (f .2)) in
     let ih : Audio R head xs (last p) o′ h′ at serial ((next + 1) % 2 ^ 32) (n + d) =
@@ -246,6 +255,8 @@ audio-run R head (x ∷ xs) false o h position serial next n k small f =
           ∙ ap₂ (λ (w : Position) (q : ℕ). audio (endedAfter (last p) bs) (carriedOf (openAfter o′ bs) (leftAfter h′ bs)) w serial q head)
           (mark-on R (head .streams) h b ms position (completes p) refl) (next-page next (length xs));
       skips = ap₂ (λ (t : State) (j : ℕ). skipAll R t j bs) state skip ∙ ih .skips
-          ∙ ap (λ (j : ℕ). head .preskip - j) (add-assoc n d (decodedIn ms) ∙ ap (λ (j : ℕ). n + j) (decoded-on R (head .streams) h b ms (completes p) refl));
-      listings = ap₂ (λ (a : Listing) (l : List Listing). a ∷ l) (f .1 ∙ audio-listing R head b o h position serial next k (head .preskip) n) (ih .listings);
+          ∙ ap (λ (j : ℕ). head .preskip - j)
+          (add-assoc n d (decodedIn ms) ∙ ap (λ (j : ℕ). n + j) (decoded-on R (head .streams) h b ms (completes p) refl));
+      listings = ap₂ (λ (a : Listing) (l : List Listing). a ∷ l) (f .1 ∙ audio-listing R head b o h position serial next k (head .preskip) n)
+          (ih .listings);
     }

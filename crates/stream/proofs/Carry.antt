@@ -75,7 +75,8 @@ length-with-rest (some b) c = length-copied c 0 b
 
 pub length-carry : (v : Option Refusal) (s : State) (p : Page) (c : Bytes) → length (carryAfter v s p c) ≡ length c
 unfolding carryAfter
-length-carry none s p c = length-with-rest (newRest (s .carried) (whole p) (rest p)) (appended (s .phase) (s .carried) (firstPiece (whole p) (rest p)) c)
+length-carry none s p c = length-with-rest (newRest (s .carried) (whole p) (rest p))
+    (appended (s .phase) (s .carried) (firstPiece (whole p) (rest p)) c)
     ∙ length-appended (s .phase) (s .carried) (firstPiece (whole p) (rest p)) c
 length-carry (some n) s p c = by (isLate n)
   where
@@ -88,11 +89,14 @@ begun-is : (r : Option Bytes) (c : Bytes) → packetMax ≤ length c → RestFit
 begun-is none c room f = refl
 begun-is (some b) c room f = ap (held (length b)) (fresh b c (omega arith))
 
-pub holds : (ph : Phase) (cr : Carried) (c : Bytes) (ws : List Bytes) (r : Option Bytes) → packetMax ≤ length c → Backed cr c → Fits cr (firstPiece ws r) → RestFits (newRest cr ws r)
+pub holds : (ph : Phase) (cr : Carried) (c : Bytes) (ws : List Bytes) (r : Option Bytes) → packetMax ≤ length c → Backed cr c
+    → Fits cr (firstPiece ws r) → RestFits (newRest cr ws r)
     → carriedIn (pendingOf (join cr ws r .left)) (withRest (newRest cr ws r) (appended ph cr (firstPiece ws r) c)) ≡ join cr ws r .left
 unfolding join
-holds ph nothing c [] r room b f g = begun-is r (appended ph nothing (firstPiece [] r) c) (subst (λ (n : ℕ). packetMax ≤ n) (sym (length-appended ph nothing (firstPiece [] r) c)) room) g
-holds ph nothing c (w ∷ ws) r room b f g = begun-is r (appended ph nothing w c) (subst (λ (n : ℕ). packetMax ≤ n) (sym (length-appended ph nothing w c)) room) g
+holds ph nothing c [] r room b f g = begun-is r (appended ph nothing (firstPiece [] r) c)
+    (subst (λ (n : ℕ). packetMax ≤ n) (sym (length-appended ph nothing (firstPiece [] r) c)) room) g
+holds ph nothing c (w ∷ ws) r room b f g = begun-is r (appended ph nothing w c)
+    (subst (λ (n : ℕ). packetMax ≤ n) (sym (length-appended ph nothing w c)) room) g
 holds ph dropped c [] r room b f g = refl
 holds ph dropped c (w ∷ ws) r room b f g = begun-is r c room g
 holds ph (held n h) c [] none room b f g = ap (held n) (stays-before n [] c (let k : n + 0 ≤ packetMax = f in omega arith) ∙ sym b)
@@ -101,7 +105,8 @@ holds ph (held n h) c [] (some w) room b f g =
 holds ph (held n h) c (w ∷ ws) r room b f g = begun-is r (copied c n w) (subst (λ (n : ℕ). packetMax ≤ n) (sym (length-copied c n w)) room) g
 
 -- under a refusal the held bytes stay
-keeps : (ph : Phase) (k : Pending) (b c : Bytes) → packetMax ≤ length c → Fits (carriedIn k c) b → carriedIn k (appended ph (carriedIn k c) b c) ≡ carriedIn k c
+keeps : (ph : Phase) (k : Pending) (b c : Bytes) → packetMax ≤ length c → Fits (carriedIn k c) b
+    → carriedIn k (appended ph (carriedIn k c) b c) ≡ carriedIn k c
 keeps ph Nothing b c room f = refl
 keeps ph (Held n) b c room f = ap (held n) (stays-before n b c (let k : n + length b ≤ packetMax = f in omega arith))
 keeps ph Dropped b c room f = refl
@@ -126,7 +131,8 @@ late-short false false false false false false true h cs k = absurd (false≢tru
 late-short false false false false false false false true cs k = absurd (false≢true k)
 late-short false false false false false false false false cs k = refl
 
-pub not-long : (R : Readings) (s : State) (b : Bytes) (x : Seen) → isDone (firstOf (checksOn R s b x)) ≡ true → isLong (s .carried) (pageOf b .lacing) ≡ false
+pub not-long : (R : Readings) (s : State) (b : Bytes) (x : Seen) → isDone (firstOf (checksOn R s b x)) ≡ true
+    → isLong (s .carried) (pageOf b .lacing) ≡ false
 unfolding checksOn
 not-long R s b x k = late-short _ _ _ _ _ _ _ (isLong (s .carried) (pageOf b .lacing)) _ k
 

@@ -1,30 +1,26 @@
 -- The example's pages are accepted as they should be. Assumes nothing.
-use Prim.Native.Nat.{ℕ, zero, suc, _+_, _≤_, _<_}
+use Prim.Native.Nat.{ℕ, _^_, _≤_}
 use native.Mathlib.Nat.{le-of-eq}
 use mathlib.Core.Path.{_≡_, refl, sym, ap, subst, _∙_}
 use mathlib.Core.Bool.{Bool, true, false, not, _&&_}
 use mathlib.Core.List.{List, [], _∷_, _++_}
-use mathlib.Core.Option.{Option, none, some}
+use mathlib.Core.Option.{none}
 use borrow.Author.Tests.{not-false, ltb-true}
-use lib.Dec.{ltb, leb, eqb, lit<}
-use lib.ListN.{length, getD, take, drop, replicate, length-replicate}
-use lib.Seq.{paste}
-use Rattle.octets.specs.Pick.{pick}
-use Rattle.octets.specs.Octets.{Bytes, Octets, total, begins, copied}
-use Rattle.octets.specs.Numbers.{value, octets, number}
+use lib.Dec.{ltb, eqb}
+use lib.ListN.{length, drop, replicate, length-replicate}
+use Rattle.octets.specs.Octets.{Bytes, total, begins}
+use Rattle.octets.specs.Numbers.{value, number}
 use Rattle.octets.proofs.Tests.{both}
-use Rattle.octets.proofs.Numbers.{octets-below}
-use Rattle.octets.proofs.Parts.{octets-tail, octets-take, octets-drop}
-use Rattle.refusal.specs.declared.Refusal.{Refusal}
 use Rattle.refusal.specs.declared.Refusal.the-variants.{NotOnePage, WrongChecksum}
 use Rattle.refusal.specs.Checks.{Check, _when_, firstOf}
 use Rattle.refusal.specs.Told.{gives}
 use Rattle.refusal.proofs.Checks.{no-refusal, passed}
 use Rattle.ogg_crc.specs.Crc.{pageCrc}
+use Rattle.ogg_page.specs.declared.PageHeader.{PageHeader}
 use Rattle.ogg_page.specs.Page.{hasCapture, headerOf, checksumOf}
 use Rattle.ogg_page.specs.Lacing.{endedFrom, unfinishedFrom, cutFrom}
 use Rattle.ogg_page.specs.Reading.{isOnePage, readChecks, readPage}
-use Rattle.ogg_page.specs.Writing.{sealed, startOf, pageBytes, pageSize, writeChecks, written as writtenBy, writeTold, writeOut}
+use Rattle.ogg_page.specs.Writing.{pageSize, writeTold}
 use Rattle.ogg_page.specs.Statements.{Fit, ReadsAs}
 use Rattle.ogg_page.proofs.RoundTrip.{reads-back}
 use Rattle.opus_head.specs.Fields.{streamsOf, coupledOf, indicesOf, places, headOf as fieldsOf}
@@ -46,7 +42,7 @@ use Rattle.stream.specs.Readings.{readings}
 use Rattle.stream.specs.State.{Carried, nothing, dropped, held, State, isEnded, expecting}
 use Rattle.stream.specs.Packets.{Seen, join, seen, packetMax, anyLong, longFrom, afterFirst, audioPackets, lengthsOf}
 use Rattle.stream.specs.Rules.{wrongFlags, wrongShape, wrongGranule, fieldChecks, lacingChecks, headerChecks, packetChecks, timeChecks, checksOn, Stamp, stamps, startOn, stampsOn, nextOn, verdict, after, stamped}
-use Rattle.stream.specs.Example.{R, headPage, tagsPage, firstPage, middlePage, holePage, lastPage, written, Planned, follow, firstPlan, secondPlan, room}
+use Rattle.stream.specs.Example.{R, headPage, tagsPage, firstPage, middlePage, holePage, lastPage, shiftedPage, written, Planned, follow, firstPlan, secondPlan, room}
 use Rattle.stream.specs.Feed.{start}
 use Rattle.stream.proofs.Theorem1.{fresh}
 use Rattle.stream.proofs.Plan.{isSome, Goes, wanted, Followed, followed}
@@ -58,13 +54,35 @@ pub record Reads (b : Bytes) (p : Page) : Type 0 where
   pub isPage : R .isPage b ≡ true
   pub isSealed : R .isSealed b ≡ true
 
-pub reads : (p : Page) → Fit (p .header) → writeTold (p .header) (p .lacing) (p .body) (replicate (pageSize (p .lacing) (p .body)) 0) ≡ gives (pageSize (p .lacing) (p .body))
+-- the fields' widths hold the numbers
+abbrev fitsIn : PageHeader → Bool
+fitsIn h = ltb (h .flags) (2 ^ 8) && (ltb (h .granule) (2 ^ 64) && (ltb (h .serial) (2 ^ 32) && ltb (h .sequence) (2 ^ 32)))
+
+fit : (h : PageHeader) → fitsIn h ≡ true → Fit h
+fit h e =
+    let a = both (ltb (h .flags) (2 ^ 8)) (ltb (h .granule) (2 ^ 64) && (ltb (h .serial) (2 ^ 32) && ltb (h .sequence) (2 ^ 32))) e in
+    let b = both (ltb (h .granule) (2 ^ 64)) (ltb (h .serial) (2 ^ 32) && ltb (h .sequence) (2 ^ 32)) (a .1) in
+    let c = both (ltb (h .serial) (2 ^ 32)) (ltb (h .sequence) (2 ^ 32)) (b .1) in
+    record {
+      flags = ltb-true (h .flags) (2 ^ 8) (a .0);
+      granule = ltb-true (h .granule) (2 ^ 64) (b .0);
+      serial = ltb-true (h .serial) (2 ^ 32) (c .0);
+      sequence = ltb-true (h .sequence) (2 ^ 32) (c .1);
+    }
+
+-- an output that the page just fits
+abbrev output : Page → Bytes
+output p = replicate (pageSize (p .lacing) (p .body)) 0
+
+reads : (p : Page) → fitsIn (p .header) ≡ true → writeTold (p .header) (p .lacing) (p .body) (output p) ≡ gives (pageSize (p .lacing) (p .body))
     → Reads (written p) p
 unfolding readings pageOf readPage written
-reads p fit told =
-    let k : ReadsAs (written p) (p .header) (p .lacing) (p .body) = reads-back (p .header) (p .lacing) (p .body) (replicate (pageSize (p .lacing) (p .body)) 0) fit told in
+reads p fits told =
+    let k : ReadsAs (written p) (p .header) (p .lacing) (p .body) = reads-back (p .header) (p .lacing) (p .body) (output p)
+    (fit (p .header) fits) told in
     let found = no-refusal (firstOf (readChecks pageCrc (written p))) (headerOf (written p)) (p .header) (k .header) in
-    let one = passed NotOnePage (not (isOnePage (written p))) (WrongChecksum when not (eqb (pageCrc (written p)) (checksumOf (written p))) ∷ []) (found .0) in
+    let one = passed NotOnePage (not (isOnePage (written p)))
+    (WrongChecksum when not (eqb (pageCrc (written p)) (checksumOf (written p))) ∷ []) (found .0) in
     let two = passed WrongChecksum (not (eqb (pageCrc (written p)) (checksumOf (written p)))) [] (one .1) in
     record {
       page = rw (found .1, k .lacing, k .body) refl;
@@ -98,29 +116,26 @@ step s t l b p k going v n m = record { passes = verdict-by s b p k going ∙ v;
 
 -- ---- the pages
 
-pub head-reads : Reads (written headPage) headPage
-unfolding writeTold firstOf total
-head-reads = reads headPage (record { flags = lit< tt; granule = lit< tt; serial = lit< tt; sequence = lit< tt }) refl
+pub record Pages : Type 0 where
+  pub head : Reads (written headPage) headPage
+  pub tags : Reads (written tagsPage) tagsPage
+  pub first : Reads (written firstPage) firstPage
+  pub middle : Reads (written middlePage) middlePage
+  pub hole : Reads (written holePage) holePage
+  pub end : Reads (written lastPage) lastPage
+  pub shifted : Reads (written shiftedPage) shiftedPage
 
-pub tags-reads : Reads (written tagsPage) tagsPage
+pub pages : Pages
 unfolding writeTold firstOf total
-tags-reads = reads tagsPage (record { flags = lit< tt; granule = lit< tt; serial = lit< tt; sequence = lit< tt }) refl
-
-pub first-reads : Reads (written firstPage) firstPage
-unfolding writeTold firstOf total
-first-reads = reads firstPage (record { flags = lit< tt; granule = lit< tt; serial = lit< tt; sequence = lit< tt }) refl
-
-pub middle-reads : Reads (written middlePage) middlePage
-unfolding writeTold firstOf total
-middle-reads = reads middlePage (record { flags = lit< tt; granule = lit< tt; serial = lit< tt; sequence = lit< tt }) refl
-
-pub hole-reads : Reads (written holePage) holePage
-unfolding writeTold firstOf total
-hole-reads = reads holePage (record { flags = lit< tt; granule = lit< tt; serial = lit< tt; sequence = lit< tt }) refl
-
-pub last-reads : Reads (written lastPage) lastPage
-unfolding writeTold firstOf total
-last-reads = reads lastPage (record { flags = lit< tt; granule = lit< tt; serial = lit< tt; sequence = lit< tt }) refl
+pages = record {
+  head = reads headPage refl refl;
+  tags = reads tagsPage refl refl;
+  first = reads firstPage refl refl;
+  middle = reads middlePage refl refl;
+  hole = reads holePage refl refl;
+  end = reads lastPage refl refl;
+  shifted = reads shiftedPage refl refl;
+}
 
 -- of 480 samples
 abbrev pub stamp : ℕ → Stamp
@@ -149,30 +164,6 @@ s5 = at Audio nothing (At 3000) 5
 abbrev pub s6 : State
 s6 = at Ended nothing (At 3100) 6
 
-pub head-step : Step fresh (written headPage) s1 []
-unfolding firstOf expecting seen join whole rest cutFrom unfinishedFrom wrongFlags continued last longFrom anyLong endedFrom wrongShape wrongGranule readings isHead begins fieldsOf number value streamsOf coupledOf indicesOf places rightMapping allowedChannels rightStreams rightIndices packetChecks audioPackets timeChecks lengthsOf nextOn stampsOn startOn from stamps total
-head-step = step fresh s1 [] (written headPage) headPage head-reads refl refl refl refl
-
-pub tags-step : Step s1 (written tagsPage) s2 []
-unfolding firstOf expecting seen join whole rest cutFrom unfinishedFrom wrongFlags continued last longFrom anyLong endedFrom afterFirst wrongShape wrongGranule readings begins isTags isLaidOut fitsAt allFit textsFrom placeAfter tagsOf rightTags rightComments allRight occurrences utf8 utf8From number value packetChecks audioPackets timeChecks lengthsOf nextOn stampsOn startOn from stamps total packetLengths parse shapeOf allAre frameSamples configSamples coded codedTimes countedShape paddingFrom
-tags-step = step s1 s2 [] (written tagsPage) tagsPage tags-reads refl refl refl refl
-
-pub first-step : Step s2 (written firstPage) s3 (stamp 1000 ∷ [])
-unfolding firstOf expecting seen join whole rest cutFrom unfinishedFrom wrongFlags continued last longFrom anyLong endedFrom afterFirst wrongShape wrongGranule readings begins packetChecks audioPackets timeChecks lengthsOf nextOn stampsOn startOn from stamps total packetLengths parse shapeOf allAre frameSamples configSamples coded codedTimes countedShape paddingFrom
-first-step = step s2 s3 (stamp 1000 ∷ []) (written firstPage) firstPage first-reads refl refl refl refl
-
-pub middle-step : Step s3 (written middlePage) s4 []
-unfolding firstOf expecting seen join whole rest cutFrom unfinishedFrom wrongFlags continued last longFrom anyLong endedFrom afterFirst wrongShape wrongGranule readings begins packetChecks audioPackets timeChecks lengthsOf nextOn stampsOn startOn from stamps total packetLengths parse shapeOf allAre frameSamples configSamples coded codedTimes countedShape paddingFrom
-middle-step = step s3 s4 [] (written middlePage) middlePage middle-reads refl refl refl refl
-
-pub hole-step : Step s4 (written holePage) s5 (stamp 3000 ∷ [])
-unfolding firstOf expecting seen join whole rest cutFrom unfinishedFrom wrongFlags continued last longFrom anyLong endedFrom afterFirst wrongShape wrongGranule readings begins packetChecks audioPackets timeChecks lengthsOf nextOn stampsOn startOn from stamps total packetLengths parse shapeOf allAre frameSamples configSamples coded codedTimes countedShape paddingFrom
-hole-step = step s4 s5 (stamp 3000 ∷ []) (written holePage) holePage hole-reads refl refl refl refl
-
-pub last-step : Step s5 (written lastPage) s6 (stamp 3480 ∷ [])
-unfolding firstOf expecting seen join whole rest cutFrom unfinishedFrom wrongFlags continued last longFrom anyLong endedFrom afterFirst wrongShape wrongGranule readings begins packetChecks audioPackets timeChecks lengthsOf nextOn stampsOn startOn from stamps total packetLengths parse shapeOf allAre frameSamples configSamples coded codedTimes countedShape paddingFrom
-last-step = step s5 s6 (stamp 3480 ∷ []) (written lastPage) lastPage last-reads refl refl refl refl
-
 -- ---- the second reader's states
 
 abbrev pub q0 : State
@@ -181,13 +172,30 @@ q0 = record { phase = Opened; carried = nothing; position = Joined; serial = 0; 
 abbrev pub q1 : State
 q1 = at Audio dropped Joined 4
 
-pub opened-step : Step q0 (written middlePage) q1 []
-unfolding firstOf expecting seen join whole rest cutFrom unfinishedFrom wrongFlags continued last longFrom anyLong endedFrom afterFirst wrongShape wrongGranule readings begins packetChecks audioPackets timeChecks lengthsOf nextOn stampsOn startOn from stamps total packetLengths parse shapeOf allAre frameSamples configSamples coded codedTimes countedShape paddingFrom
-opened-step = step q0 q1 [] (written middlePage) middlePage middle-reads refl refl refl refl
+-- ---- the steps of both
 
-pub dropped-step : Step q1 (written holePage) s5 []
-unfolding firstOf expecting seen join whole rest cutFrom unfinishedFrom wrongFlags continued last longFrom anyLong endedFrom afterFirst wrongShape wrongGranule readings begins packetChecks audioPackets timeChecks lengthsOf nextOn stampsOn startOn from stamps total packetLengths parse shapeOf allAre frameSamples configSamples coded codedTimes countedShape paddingFrom
-dropped-step = step q1 s5 [] (written holePage) holePage hole-reads refl refl refl refl
+pub record Steps : Type 0 where
+  pub head : Step fresh (written headPage) s1 []
+  pub tags : Step s1 (written tagsPage) s2 []
+  pub first : Step s2 (written firstPage) s3 (stamp 1000 ∷ [])
+  pub middle : Step s3 (written middlePage) s4 []
+  pub hole : Step s4 (written holePage) s5 (stamp 3000 ∷ [])
+  pub end : Step s5 (written lastPage) s6 (stamp 3480 ∷ [])
+  pub opened : Step q0 (written middlePage) q1 []
+  pub dropped : Step q1 (written holePage) s5 []
+
+pub steps : Steps
+unfolding firstOf expecting seen join whole rest cutFrom unfinishedFrom wrongFlags continued last longFrom anyLong endedFrom afterFirst wrongShape wrongGranule readings begins isTags isLaidOut fitsAt allFit textsFrom placeAfter tagsOf rightTags rightComments allRight occurrences utf8 utf8From packetChecks audioPackets timeChecks lengthsOf nextOn stampsOn startOn from stamps total packetLengths parse shapeOf allAre frameSamples configSamples coded codedTimes countedShape paddingFrom isHead fieldsOf number value streamsOf coupledOf indicesOf places rightMapping allowedChannels rightStreams rightIndices
+steps = record {
+  head = step fresh s1 [] (written headPage) headPage (pages .head) refl refl refl refl;
+  tags = step s1 s2 [] (written tagsPage) tagsPage (pages .tags) refl refl refl refl;
+  first = step s2 s3 (stamp 1000 ∷ []) (written firstPage) firstPage (pages .first) refl refl refl refl;
+  middle = step s3 s4 [] (written middlePage) middlePage (pages .middle) refl refl refl refl;
+  hole = step s4 s5 (stamp 3000 ∷ []) (written holePage) holePage (pages .hole) refl refl refl refl;
+  end = step s5 s6 (stamp 3480 ∷ []) (written lastPage) lastPage (pages .end) refl refl refl refl;
+  opened = step q0 q1 [] (written middlePage) middlePage (pages .middle) refl refl refl refl;
+  dropped = step q1 s5 [] (written holePage) holePage (pages .hole) refl refl refl refl;
+}
 
 -- ---- the refused ones
 
@@ -201,11 +209,11 @@ empty-opened = refl
 
 first-again : isSome (verdict R s3 (written firstPage)) ≡ true
 unfolding firstOf expecting
-first-again = ap isSome (verdict-by s3 (written firstPage) firstPage first-reads refl)
+first-again = ap isSome (verdict-by s3 (written firstPage) firstPage (pages .first) refl)
 
 middle-again : isSome (verdict R q1 (written middlePage)) ≡ true
 unfolding firstOf expecting
-middle-again = ap isSome (verdict-by q1 (written middlePage) middlePage middle-reads refl)
+middle-again = ap isSome (verdict-by q1 (written middlePage) middlePage (pages .middle) refl)
 
 -- ---- the plans
 
@@ -216,21 +224,21 @@ pub first-goes : Goes R fresh firstPlan
 first-goes = (
   refl,
   (
-    head-step .passes,
-    later (drop 2 firstPlan) head-step (
+    steps .head .passes,
+    later (drop 2 firstPlan) (steps .head) (
       empty-refused,
       (
-        tags-step .passes,
-        later (drop 4 firstPlan) tags-step (
-          first-step .passes,
-          later (drop 5 firstPlan) first-step (
+        steps .tags .passes,
+        later (drop 4 firstPlan) (steps .tags) (
+          steps .first .passes,
+          later (drop 5 firstPlan) (steps .first) (
             first-again,
             (
-              middle-step .passes,
-              later (drop 7 firstPlan) middle-step (
-                hole-step .passes,
-                later (drop 8 firstPlan) hole-step
-                    (last-step .passes, tt),
+              steps .middle .passes,
+              later (drop 7 firstPlan) (steps .middle) (
+                steps .hole .passes,
+                later (drop 8 firstPlan) (steps .hole)
+                    (steps .end .passes, tt),
               ),
             ),
           ),
@@ -244,15 +252,15 @@ pub second-goes : Goes R q0 secondPlan
 second-goes = (
   empty-opened,
   (
-    opened-step .passes,
-    later (drop 2 secondPlan) opened-step (
+    steps .opened .passes,
+    later (drop 2 secondPlan) (steps .opened) (
       middle-again,
       (
         refl,
         (
-          dropped-step .passes,
-          later (drop 5 secondPlan) dropped-step
-              (last-step .passes, tt),
+          steps .dropped .passes,
+          later (drop 5 secondPlan) (steps .dropped)
+              (steps .end .passes, tt),
         ),
       ),
     ),
@@ -265,51 +273,3 @@ room-enough = le-of-eq (sym (length-replicate {A = ℕ} packetMax 0))
 
 pub first-followed : Followed R start [] (follow R start room firstPlan) (wanted firstPlan)
 first-followed = followed R firstPlan start room [] room-enough refl first-goes
-
--- ---- the bytes of the feedings are bytes
-
-abbrev pub allBelow : Bytes → Bool
-allBelow [] = true
-allBelow (b ∷ s) = ltb b 256 && allBelow s
-
-below-octets : (s : Bytes) → allBelow s ≡ true → (i : ℕ) → getD s i 0 < 256
-below-octets [] e i = lit< tt
-below-octets (b ∷ s) e zero = ltb-true b 256 (both (ltb b 256) (allBelow s) e .0)
-below-octets (b ∷ s) e (suc i) = below-octets s (both (ltb b 256) (allBelow s) e .1) i
-
-octets-append : (s t : Bytes) → Octets s → Octets t → (i : ℕ) → getD (s ++ t) i 0 < 256
-octets-append [] t o p i = p .below i
-octets-append (b ∷ s) t o p zero = o .below 0
-octets-append (b ∷ s) t o p (suc i) = octets-append s t (octets-tail o) p i
-
-octets-copied : (d : Bytes) (at : ℕ) (s : Bytes) → Octets d → Octets s → Octets (copied d at s)
-unfolding copied
-octets-copied d at s o p = by (leb (at + length s) (length d))
-  where
-    by : (t : Bool) → Octets (pick t (paste d at s (length s)) d)
-    by true =
-        record {
-          below = octets-append (take at d ++ take (length s) s) (drop (at + length s) d)
-              (record { below = octets-append (take at d) (take (length s) s) (octets-take at d o) (octets-take (length s) s p) }) (octets-drop (at + length s) d o);
-        }
-    by false = o
-
-zero-below : (n i : ℕ) → getD (replicate n 0) i 0 < 256
-zero-below zero i = lit< tt
-zero-below (suc n) zero = lit< tt
-zero-below (suc n) (suc i) = zero-below n i
-
-zeros : (n : ℕ) → Octets (replicate n 0)
-zeros n = record { below = zero-below n }
-
-pub page-octets : (p : Page) → allBelow (startOf (p .header) (length (p .lacing)) ++ p .lacing ++ p .body) ≡ true → Octets (written p)
-unfolding written writeOut pageBytes sealed
-page-octets p e =
-    octets-take (pageSize (p .lacing) (p .body)) _ (by (firstOf (writeChecks (p .header) (p .lacing) (p .body) (length (replicate (pageSize (p .lacing) (p .body)) 0)))))
-  where
-    by : (v : Option Refusal) → Octets (writtenBy v (replicate (pageSize (p .lacing) (p .body)) 0) (pageBytes (p .header) (p .lacing) (p .body)))
-    by none =
-        octets-copied (replicate (pageSize (p .lacing) (p .body)) 0) 0 (pageBytes (p .header) (p .lacing) (p .body)) (zeros (pageSize (p .lacing) (p .body)))
-        (octets-copied (startOf (p .header) (length (p .lacing)) ++ p .lacing ++ p .body) 22 (octets 4 (pageCrc (startOf (p .header) (length (p .lacing)) ++ p .lacing ++ p .body)))
-        (record { below = below-octets (startOf (p .header) (length (p .lacing)) ++ p .lacing ++ p .body) e }) (octets-below 4 (pageCrc (startOf (p .header) (length (p .lacing)) ++ p .lacing ++ p .body))))
-    by (some n) = zeros (pageSize (p .lacing) (p .body))

@@ -47,7 +47,8 @@ commenting ph cr serial next head = record {
 -- ---- one page of the comment packet
 
 -- the page that completes it leaves nothing unfinished
-one-packet : (cr : Carried) (ws : List Bytes) (r : Option Bytes) → onePiece ws r ≡ true → join cr ws r .completes ≡ true → join cr ws r .left ≡ nothing
+one-packet : (cr : Carried) (ws : List Bytes) (r : Option Bytes) → onePiece ws r ≡ true → join cr ws r .completes ≡ true
+    → join cr ws r .left ≡ nothing
 unfolding join
 one-packet nothing [] r o e = absurd (false≢true e)
 one-packet nothing (w ∷ []) none o e = refl
@@ -81,8 +82,10 @@ module _ (R : Readings) (head : Head) (b : Bytes) (o : Bool) (h : Bytes) (serial
   unfolding after nextOn expecting seen
   comment-after v =
       let e : Expected now page = expected R now b v in
-      ap₂ (λ (k : Carried) (t : Bool). commenting (pick t Audio Comment) k (page .header .serial) ((page .header .sequence + 1) % 2 ^ 32) head) (joins o h page begun .left) (page-completes (carriedOf o h) page)
-      ∙ ap₂ (λ (s q : ℕ). commenting (pick (completes page) Audio Comment) (carriedOf o-after h-after) s ((q + 1) % 2 ^ 32) head) (e .serial) (e .sequence)
+      ap₂ (λ (k : Carried) (t : Bool). commenting (pick t Audio Comment) k (page .header .serial)
+      ((page .header .sequence + 1) % 2 ^ 32) head) (joins o h page begun .left) (page-completes (carriedOf o h) page)
+      ∙ ap₂ (λ (s q : ℕ). commenting (pick (completes page) Audio Comment) (carriedOf o-after h-after) s ((q + 1) % 2 ^ 32) head) (e .serial)
+      (e .sequence)
 
   comment-shape : verdict R now b ≡ none → onePiece (whole page) (rest page) ≡ true
   unfolding verdict expecting wrongShape
@@ -133,7 +136,8 @@ pub record Comments (R : Readings) (head : Head) (xs : List Shown) (o : Bool) (h
         streams = head .streams;
         preskip = head .preskip;
       }
-  pub skips : skipAll R (commenting Comment (carriedOf o h) serial next head) (head .preskip) (bytesOf xs) ≡ head .preskip - decodedIn (laterMarks R head (bytesOf xs))
+  pub skips : skipAll R (commenting Comment (carriedOf o h) serial next head) (head .preskip) (bytesOf xs)
+      ≡ head .preskip - decodedIn (laterMarks R head (bytesOf xs))
   pub listings : map (λ (x : Shown). x .listing) xs ≡ commentListings R head (bytesOf xs)
 
 -- one more page, t: it completes the comment packet
@@ -169,21 +173,28 @@ module _ (R : Readings) (head : Head) (x : Shown) (xs : List Shown) (o : Bool) (
   record More (t : Bool) : Type 0 where
     arrives : Arrived R head serial (afterAll R (after R this (x .bytes)) bs) (pick t xs (afterComment bytesIn xs))
     state : afterAll R (after R this (x .bytes)) bs
-        ≡ end (pick t (audioPhase (endedAfter false bs)) (commentPhase bs)) o-next h-next (marksFrom R (head .streams) [] (pick t bs (afterComment id-bytes bs))) ((next + suc (length xs)) % 2 ^ 32)
-    skips : skipAll R (after R this (x .bytes)) (skipIn R (head .preskip) this (x .bytes)) bs ≡ head .preskip - decodedIn (marksFrom R (head .streams) [] (pick t bs (afterComment id-bytes bs)))
+        ≡ end (pick t (audioPhase (endedAfter false bs)) (commentPhase bs)) o-next h-next
+        (marksFrom R (head .streams) [] (pick t bs (afterComment id-bytes bs))) ((next + suc (length xs)) % 2 ^ 32)
+    skips : skipAll R (after R this (x .bytes)) (skipIn R (head .preskip) this (x .bytes)) bs
+        ≡ head .preskip - decodedIn (marksFrom R (head .streams) [] (pick t bs (afterComment id-bytes bs)))
     listings : map (λ (y : Shown). y .listing) xs ≡ pick t (audioListings R head [] Unset 0 bs) (commentListings R head bs)
 
-  then-after : (t : Bool) → completes (pageOf (x .bytes)) ≡ t → after R this (x .bytes) ≡ commenting (pick t Audio Comment) (carriedOf o-next h-next) serial due head
+  then-after : (t : Bool) → completes (pageOf (x .bytes)) ≡ t
+      → after R this (x .bytes) ≡ commenting (pick t Audio Comment) (carriedOf o-next h-next) serial due head
   then-after t e =
-      comment-after R head (x .bytes) o h serial next begun (f .0) ∙ ap (λ (w : Bool). commenting (pick w Audio Comment) (carriedOf o-next h-next) serial due head) e
+      comment-after R head (x .bytes) o h serial next begun (f .0)
+      ∙ ap (λ (w : Bool). commenting (pick w Audio Comment) (carriedOf o-next h-next) serial due head) e
 
-  then-lists : (t : Bool) → completes (pageOf (x .bytes)) ≡ t → Lists R (commenting (pick t Audio Comment) (carriedOf o-next h-next) serial due head) (head .preskip) xs
+  then-lists : (t : Bool) → completes (pageOf (x .bytes)) ≡ t
+      → Lists R (commenting (pick t Audio Comment) (carriedOf o-next h-next) serial due head) (head .preskip) xs
   then-lists t e =
-      subst (λ (j : ℕ). Lists R (commenting (pick t Audio Comment) (carriedOf o-next h-next) serial due head) j xs) (comment-skip R head (x .bytes) o h serial next begun (head .preskip))
+      subst (λ (j : ℕ). Lists R (commenting (pick t Audio Comment) (carriedOf o-next h-next) serial due head) j xs)
+      (comment-skip R head (x .bytes) o h serial next begun (head .preskip))
       (subst (λ (s : State). Lists R s (skipIn R (head .preskip) this (x .bytes)) xs) (then-after t e) (f .2))
 
   skips-on : (t : Bool) → completes (pageOf (x .bytes)) ≡ t
-      → skipAll R (after R this (x .bytes)) (skipIn R (head .preskip) this (x .bytes)) bs ≡ skipAll R (commenting (pick t Audio Comment) (carriedOf o-next h-next) serial due head) (head .preskip) bs
+      → skipAll R (after R this (x .bytes)) (skipIn R (head .preskip) this (x .bytes)) bs
+      ≡ skipAll R (commenting (pick t Audio Comment) (carriedOf o-next h-next) serial due head) (head .preskip) bs
   skips-on t e = ap₂ (λ (s : State) (j : ℕ). skipAll R s j bs) (then-after t e) (comment-skip R head (x .bytes) o h serial next begun (head .preskip))
 
   ended : completes (pageOf (x .bytes)) ≡ true → More true
@@ -192,16 +203,20 @@ module _ (R : Readings) (head : Head) (x : Shown) (xs : List Shown) (o : Bool) (
       let empty : h-next ≡ [] = begun-left o h (segmentsOf (pageOf (x .bytes))) begun closed in
       let none-left : carriedOf o-next h-next ≡ nothing = ap (λ (w : Bool). carriedOf w h-next) closed in
       let sound : State = audio false nothing Unset serial due head in
-      let lists : Lists R sound (head .preskip) xs = subst (λ (k : Carried). Lists R (commenting Audio k serial due head) (head .preskip) xs) none-left (then-lists true e) in
+      let lists : Lists R sound (head .preskip) xs = subst
+      (λ (k : Carried). Lists R (commenting Audio k serial due head) (head .preskip) xs) none-left (then-lists true e) in
       let same : after R this (x .bytes) ≡ sound = then-after true e ∙ ap (λ (k : Carried). commenting Audio k serial due head) none-left in
       let run : Sound R head xs false false [] Unset serial due 0 =
-      audio-run R head xs false false [] Unset serial due 0 (λ w. refl) (omega arith) (subst (λ (j : ℕ). Lists R sound j xs) (sym (sub-zero (head .preskip))) lists) in
+      audio-run R head xs false false [] Unset serial due 0 (λ w. refl) (omega arith)
+      (subst (λ (j : ℕ). Lists R sound j xs) (sym (sub-zero (head .preskip))) lists) in
       record {
         arrives = record { next = due; lists = lists; ends = λ t. ap (λ (s : State). afterAll R s bs) (sym same) };
         state = ap (λ (s : State). afterAll R s bs) same ∙ run .state
             ∙ ap (end (audioPhase (endedAfter false bs)) false [] (marksFrom R (head .streams) [] bs)) (next-page next (length xs))
-            ∙ ap₂ (λ (w : Bool) (k : Bytes). end (audioPhase (endedAfter false bs)) w k (marksFrom R (head .streams) [] bs) ((next + suc (length xs)) % 2 ^ 32)) (sym closed) (sym empty);
-        skips = skips-on true e ∙ ap₂ (λ (k : Carried) (j : ℕ). skipAll R (commenting Audio k serial due head) j bs) none-left (sym (sub-zero (head .preskip))) ∙ run .skips
+            ∙ ap₂ (λ (w : Bool) (k : Bytes). end (audioPhase (endedAfter false bs)) w k (marksFrom R (head .streams) [] bs)
+            ((next + suc (length xs)) % 2 ^ 32)) (sym closed) (sym empty);
+        skips = skips-on true e ∙ ap₂ (λ (k : Carried) (j : ℕ). skipAll R (commenting Audio k serial due head) j bs) none-left
+            (sym (sub-zero (head .preskip))) ∙ run .skips
             ∙ ap (λ (j : ℕ). head .preskip - j) (zero-add (decodedIn (marksFrom R (head .streams) [] bs)));
         listings = run .listings;
       }
@@ -216,7 +231,8 @@ module _ (R : Readings) (head : Head) (x : Shown) (xs : List Shown) (o : Bool) (
   }
 
   more : (t : Bool) → completes (pageOf (x .bytes)) ≡ t
-      → (Lists R (commenting Comment (carriedOf o-next h-next) serial due head) (head .preskip) xs → Comments R head xs o-next h-next serial due) → More t
+      → (Lists R (commenting Comment (carriedOf o-next h-next) serial due head) (head .preskip) xs
+      → Comments R head xs o-next h-next serial due) → More t
   more true e again = ended e
   more false e again = going e (again (then-lists false e))
 
@@ -235,10 +251,12 @@ comment-run R head (x ∷ xs) o h serial next k small f =
     let p : Page = pageOf (x .bytes) in
     let m : More R head x xs o h serial next k f (completes p) =
     more R head x xs o h serial next k f (completes p) refl
-    (comment-run R head xs (openFrom o (segmentsOf p)) (leftFrom h (segmentsOf p)) serial ((next + 1) % 2 ^ 32) (begun-left o h (segmentsOf p) k) (omega arith)) in
+    (comment-run R head xs (openFrom o (segmentsOf p)) (leftFrom h (segmentsOf p)) serial ((next + 1) % 2 ^ 32)
+    (begun-left o h (segmentsOf p) k) (omega arith)) in
     record {
       arrives = m .arrives;
       state = m .state;
       skips = m .skips;
-      listings = ap₂ (λ (a : Listing) (l : List Listing). a ∷ l) (f .1 ∙ comment-silent R head (x .bytes) o h serial next k (head .preskip)) (m .listings);
+      listings = ap₂ (λ (a : Listing) (l : List Listing). a ∷ l) (f .1 ∙ comment-silent R head (x .bytes) o h serial next k (head .preskip))
+          (m .listings);
     }

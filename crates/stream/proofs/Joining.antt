@@ -160,7 +160,8 @@ module _ (R : Readings) (h : Head) (x : Shown) (xs : List Shown) (q : State) (cr
       (other-stamped ∙ going-lists R h cr cq position serial next (x .bytes) full-saw other-saw near closely nj full-pass e ∙ sym full-stamped)
       (joinedFrom (isDropped cq) false xs)
       (ap (λ (s : State). toldAll R s (bytesOf xs)) (other-after false (closely .completes ∙ e))
-      ∙ ih (last page) (full-saw .left) (other-saw .left) position (page .header .serial) ((page .header .sequence + 1) % 2 ^ 32) (closely .going e) nj (then-going e)
+      ∙ ih (last page) (full-saw .left) (other-saw .left) position (page .header .serial) ((page .header .sequence + 1) % 2 ^ 32)
+      (closely .going e) nj (then-going e)
       ∙ ap (λ (d : Bool). joinedFrom d false xs) (closely .drops e))
 
   -- the states are one from a page on that completes a packet
@@ -178,7 +179,8 @@ module _ (R : Readings) (h : Head) (x : Shown) (xs : List Shown) (q : State) (cr
   at-end : full-saw .completes ≡ true → last page ≡ true
       → toldAll R q (x .bytes ∷ bytesOf xs) ≡ refuses 19 ∷ joinedFrom (isDropped cq) false xs
   at-end e l =
-      let v : verdict R q (x .bytes) ≡ some NoPosition = other-verdict ∙ last-refused R h cr cq position serial next (x .bytes) full-saw other-saw near closely nj full-pass e l in
+      let v : verdict R q (x .bytes) ≡ some NoPosition = other-verdict
+      ∙ last-refused R h cr cq position serial next (x .bytes) full-saw other-saw near closely nj full-pass e l in
       rw v (ap (λ (m : List (Told (List Stamp))). refuses 19 ∷ m) (nothing-after R h _ _ _ _ (isDropped cq) q xs (ends-here e l)))
 
   -- a packet completes on another page: the states are one from here on
@@ -189,7 +191,8 @@ module _ (R : Readings) (h : Head) (x : Shown) (xs : List Shown) (q : State) (cr
       → toldAll R q (x .bytes ∷ bytesOf xs) ≡ gives (dropIf (isDropped cq) (stampsOf x)) ∷ joinedFrom (isDropped cq) true xs
   standing e l =
       told-pass (passes-next e l) (dropIf (isDropped cq) (stampsOf x))
-      (other-stamped ∙ next-lists R h cr cq position serial next (x .bytes) full-saw other-saw near closely nj full-pass e l ∙ ap (dropIf (isDropped cq)) (sym full-stamped))
+      (other-stamped ∙ next-lists R h cr cq position serial next (x .bytes) full-saw other-saw near closely nj full-pass e l
+      ∙ ap (dropIf (isDropped cq)) (sym full-stamped))
       (joinedFrom (isDropped cq) true xs)
       (ap (λ (s : State). toldAll R s (bytesOf xs)) (same-states e)
       ∙ follows-told R (isDropped cq) xs (after R (audio false cr position serial next h) (x .bytes)) (f .2))
@@ -200,7 +203,8 @@ module _ (R : Readings) (h : Head) (x : Shown) (xs : List Shown) (q : State) (cr
     where
       by : (t l : Bool) → full-saw .completes ≡ t → last page ≡ l
           → toldAll R q (x .bytes ∷ bytesOf xs)
-          ≡ pick t (pick l (refuses 19 ∷ joinedFrom (isDropped cq) false xs) (gives (dropIf (isDropped cq) (stampsOf x)) ∷ joinedFrom (isDropped cq) true xs))
+          ≡ pick t (pick l (refuses 19 ∷ joinedFrom (isDropped cq) false xs)
+          (gives (dropIf (isDropped cq) (stampsOf x)) ∷ joinedFrom (isDropped cq) true xs))
           (gives (stampsOf x) ∷ joinedFrom (isDropped cq) false xs)
       by false l e k = going-on ih e
       by true true e k = at-end e k
@@ -217,7 +221,8 @@ module _ (R : Readings) (h : Head) (x : Shown) (xs : List Shown) (q : State) (cr
   going-state ih e t =
       after-pass (passes-going e)
       ∙ ap (λ (s : State). afterTold R s (bytesOf xs)) (other-after false (closely .completes ∙ e))
-      ∙ ih (last page) (full-saw .left) (other-saw .left) position (page .header .serial) ((page .header .sequence + 1) % 2 ^ 32) (closely .going e) nj (then-going e) t
+      ∙ ih (last page) (full-saw .left) (other-saw .left) position (page .header .serial) ((page .header .sequence + 1) % 2 ^ 32)
+      (closely .going e) nj (then-going e) t
       ∙ ap (λ (s : State). afterAll R s (bytesOf xs)) (sym (full-after false e))
 
   standing-state : full-saw .completes ≡ true → last page ≡ false → SameEnd

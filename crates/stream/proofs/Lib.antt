@@ -17,5 +17,6 @@ pub mod Theorem4
 pub mod Real
 pub mod Lists
 pub mod Plan
+pub mod WrittenOctets
 pub mod Example
 pub mod Meets

@@ -7,7 +7,7 @@ use mathlib.Core.Option.{Option, none, some}
 use native.Mathlib.Omega.{arith}
 use lib.Dec.{ltb}
 use lib.ListN.{length, getD, take, drop, length-take}
-use lib.Seq.{take-at, drop-at}
+use lib.Seq.{take-append-seam, drop-append-seam}
 use Rattle.octets.specs.Pick.{pick}
 use Rattle.octets.specs.Octets.{Bytes, Octets}
 use Rattle.refusal.specs.declared.Refusal.{Refusal}
@@ -21,7 +21,7 @@ use Rattle.stream.specs.State.{Carried, nothing, dropped, held, State, i
 use Rattle.stream.specs.Packets.{Seen, join, seen, audioPackets, lengthsOf}
 use Rattle.stream.specs.Rules.{verdict}
 use Rattle.stream.specs.Feed.{Reader, view, Entry, entries, entriesOn, countsOn, Lent, listMax, isShort, listed, Taken, Fed, fedBy, feed}
-use Rattle.stream.specs.Statements.{Shows, AcceptedShows}
+use Rattle.stream.specs.Statements.{HasFirst, Shows, AcceptedShows}
 use Rattle.stream.proofs.Pieces.{onwards}
 use Rattle.stream.proofs.Carry.{length-carry}
 use Rattle.stream.proofs.Step.{expected, saw, feeds, feeds-short, gives≢refuses}
@@ -33,7 +33,8 @@ unfolding cutFrom
 whole-few n [] body = omega arith
 whole-few n (v ∷ l) body = by (ltb v 255) (whole-few 0 l (drop (n + v) body)) (whole-few (n + v) l body)
   where
-    by : (t : Bool) → length (wholeFrom 0 l (drop (n + v) body)) ≤ length l → length (wholeFrom (n + v) l body) ≤ length l → length (onwards t (n + v) l body .whole) ≤ length (v ∷ l)
+    by : (t : Bool) → length (wholeFrom 0 l (drop (n + v) body)) ≤ length l → length (wholeFrom (n + v) l body) ≤ length l
+        → length (onwards t (n + v) l body .whole) ≤ length (v ∷ l)
     by true anew again = omega arith
     by false anew again = omega arith
 
@@ -64,7 +65,8 @@ audio-few R s b o = by (inHeaders (s .phase))
   where
     all : length (join (s .carried) (whole (pageOf b)) (rest (pageOf b)) .packets) ≤ listMax
     all =
-        let a : length (join (s .carried) (whole (pageOf b)) (rest (pageOf b)) .packets) ≤ length (whole (pageOf b)) = join-few (s .carried) (whole (pageOf b)) (rest (pageOf b)) in
+        let a : length (join (s .carried) (whole (pageOf b)) (rest (pageOf b)) .packets) ≤ length (whole (pageOf b)) = join-few (s .carried)
+        (whole (pageOf b)) (rest (pageOf b)) in
         let c : length (whole (pageOf b)) ≤ length (pageOf b .lacing) = whole-few 0 (pageOf b .lacing) (pageOf b .body) in
         let d : length (pageOf b .lacing) ≤ listMax = lacing-few b o in
         omega arith
@@ -80,15 +82,16 @@ length-entries skip end g at (d ∷ ds) = ap suc (length-entries (skip - d) end 
 
 -- ---- the lists
 
-listed-first : (f : Entry → ℕ) (es : List Entry) (old : List ℕ) → take (length es) (listed f es old) ≡ map f es
-listed-first f es old = take-at (map f es) (drop (length es) old) (length es) (length-map f es)
-
-listed-rest : (f : Entry → ℕ) (es : List Entry) (old : List ℕ) → drop (length es) (listed f es old) ≡ drop (length es) old
-listed-rest f es old = drop-at (map f es) (drop (length es) old) (length es) (length-map f es)
+has-first : (f : Entry → ℕ) (es : List Entry) (old : List ℕ) → HasFirst old (listed f es old) (map f es)
+has-first f es old = record {
+  first = take-append-seam (map f es) (drop (length es) old);
+  rest = drop-append-seam (map f es) (drop (length es) old) ∙ ap (λ (n : ℕ). drop n old) (sym (length-map f es));
+}
 
 shows-by : (R : Readings) (r : Reader) (m : Lent) (b : Bytes) (t : Taken) (v : Option Refusal) → Octets b
     → fedBy v R r m (expected r (m .carry) b) (pageOf b) (saw r (m .carry) b) .told ≡ gives t
-    → Shows m (fedBy v R r m (expected r (m .carry) b) (pageOf b) (saw r (m .carry) b) .lent) (fedBy v R r m (expected r (m .carry) b) (pageOf b) (saw r (m .carry) b) .entries) (t .counts)
+    → Shows m (fedBy v R r m (expected r (m .carry) b) (pageOf b) (saw r (m .carry) b) .lent)
+    (fedBy v R r m (expected r (m .carry) b) (pageOf b) (saw r (m .carry) b) .entries) (t .counts)
 unfolding entriesOn countsOn
 shows-by R r m b t none o e =
     let s : State = expected r (m .carry) b in
@@ -99,9 +102,9 @@ shows-by R r m b t none o e =
     record {
       packets = ap (λ (c : Counts). c .packets) (sym same) ∙ sym size;
       few = (let k : length (lengthsOf R s x) ≤ listMax = audio-few R s b o in omega arith);
-      ends = (listed-first (λ (n : Entry). n .end) es (m .ends), listed-rest (λ (n : Entry). n .end) es (m .ends));
-      sizes = (listed-first (λ (n : Entry). n .size) es (m .sizes), listed-rest (λ (n : Entry). n .size) es (m .sizes));
-      kept = (listed-first (λ (n : Entry). n .kept) es (m .kept), listed-rest (λ (n : Entry). n .kept) es (m .kept));
+      ends = has-first (λ (n : Entry). n .end) es (m .ends);
+      sizes = has-first (λ (n : Entry). n .size) es (m .sizes);
+      kept = has-first (λ (n : Entry). n .kept) es (m .kept);
       room = length-carry none s (pageOf b) (m .carry);
     }
   where

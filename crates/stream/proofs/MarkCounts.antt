@@ -42,7 +42,8 @@ shares-from k n position [] = refl
 shares-from k n position (m ∷ ms) =
     let at : ℕ = begins position m in
     regroup _ _ _ _ _ _ (decoded m) (decodedIn ms)
-    (tally-three (sampleKept k n m at) (sampleSkipped k n m at) (sampleTrimmed n m at) (λ (j : ℕ). one-of-three (sampleTrimmed n m at j) (ltb (n + j) k)) (decoded m))
+    (tally-three (sampleKept k n m at) (sampleSkipped k n m at) (sampleTrimmed n m at)
+    (λ (j : ℕ). one-of-three (sampleTrimmed n m at j) (ltb (n + j) k)) (decoded m))
     (shares-from k (n + decoded m) (At (m .granule)) ms)
   where
     regroup : (a b c x y z d e : ℕ) → a + b + c ≡ d → x + y + z ≡ e → (a + x) + (b + y) + (c + z) ≡ d + e
@@ -63,16 +64,20 @@ mark-fits : (position : Position) (m : Mark) → tooSmall position (m .last) (m 
 mark-fits position m e = fits-placed position (m .last) (m .granule) (decoded m) e
 
 spans-from : (n : ℕ) (position : Position) (m : Mark) (ms : List Mark) → Legal position (m ∷ ms)
-    → before position (m .granule) (decoded m) + decodedIn (m ∷ ms) + holesFrom position (m ∷ ms) ≡ lastFrom (m .granule) ms + countFrom sampleTrimmed n position (m ∷ ms)
+    → before position (m .granule) (decoded m) + decodedIn (m ∷ ms) + holesFrom position (m ∷ ms)
+    ≡ lastFrom (m .granule) ms + countFrom sampleTrimmed n position (m ∷ ms)
 unfolding countFrom lastFrom holesFrom decodedIn placed trimmedOf
 spans-from n position m [] l =
     let k : Fits (m .granule) (decoded m) (placed position (m .last) (m .granule) (decoded m)) = mark-fits position m (l .0) in
-    spans-one (before position (m .granule) (decoded m)) (hole position (m .granule) (decoded m)) (decoded m) 0 0 (m .granule) (tally (sampleTrimmed n m (begins position m)) (decoded m)) (m .granule) 0
+    spans-one (before position (m .granule) (decoded m)) (hole position (m .granule) (decoded m)) (decoded m) 0 0 (m .granule)
+    (tally (sampleTrimmed n m (begins position m)) (decoded m)) (m .granule) 0
     (begins position m) (k .ends) (k .spans) (omega arith)
 spans-from n position m (o ∷ ms) l =
     let k : Fits (m .granule) (decoded m) (placed position (m .last) (m .granule) (decoded m)) = mark-fits position m (l .0) in
-    spans-one (before position (m .granule) (decoded m)) (hole position (m .granule) (decoded m)) (decoded m) (decodedIn (o ∷ ms)) (holesFrom (At (m .granule)) (o ∷ ms)) (m .granule)
-    (tally (sampleTrimmed n m (begins position m)) (decoded m)) (lastFrom (o .granule) ms) (countFrom sampleTrimmed (n + decoded m) (At (m .granule)) (o ∷ ms))
+    spans-one (before position (m .granule) (decoded m)) (hole position (m .granule) (decoded m)) (decoded m) (decodedIn (o ∷ ms))
+    (holesFrom (At (m .granule)) (o ∷ ms)) (m .granule)
+    (tally (sampleTrimmed n m (begins position m)) (decoded m)) (lastFrom (o .granule) ms)
+    (countFrom sampleTrimmed (n + decoded m) (At (m .granule)) (o ∷ ms))
     (begins position m) (k .ends) (k .spans) (spans-from (n + decoded m) (At (m .granule)) o ms (l .2))
 
 pub spans : (ms : List Mark) → Legal Unset ms → initial ms + decodedIn ms + holes ms ≡ lastGranule ms + trimmedCount ms
@@ -100,7 +105,8 @@ less-late d dec t h = omega arith
 
 few-trimmed : (k n : ℕ) (position : Position) (ms : List Mark) → countFrom sampleTrimmed n position ms ≤ decodedIn ms
 few-trimmed k n position ms =
-    let e : countFrom (sampleKept k) n position ms + countFrom (sampleSkipped k) n position ms + countFrom sampleTrimmed n position ms ≡ decodedIn ms = shares-from k n position ms in
+    let e : countFrom (sampleKept k) n position ms + countFrom (sampleSkipped k) n position ms + countFrom sampleTrimmed n position ms
+    ≡ decodedIn ms = shares-from k n position ms in
     omega arith
 
 module _ (k n : ℕ) (position : Position) (m : Mark) where
@@ -125,16 +131,19 @@ module _ (k n : ℕ) (position : Position) (m : Mark) where
   -- what is to be shown, a and t being kept and trimmed here
   abbrev Kept : ℕ → ℕ → List Mark → Type 0
   Kept a t rs =
-      (n - k) + (a + countFrom (sampleKept k) (n + d) (At (m .granule)) rs) ≡ (n + (d + decodedIn rs - (t + countFrom sampleTrimmed (n + d) (At (m .granule)) rs))) - k
+      (n - k) + (a + countFrom (sampleKept k) (n + d) (At (m .granule)) rs)
+      ≡ (n + (d + decodedIn rs - (t + countFrom sampleTrimmed (n + d) (At (m .granule)) rs))) - k
 
   whole-kept : (ms : List Mark)
-      → (n + d - k) + countFrom (sampleKept k) (n + d) (At (m .granule)) ms ≡ (n + d + (decodedIn ms - countFrom sampleTrimmed (n + d) (At (m .granule)) ms)) - k
+      → (n + d - k) + countFrom (sampleKept k) (n + d) (At (m .granule)) ms
+      ≡ (n + d + (decodedIn ms - countFrom sampleTrimmed (n + d) (At (m .granule)) ms)) - k
       → Kept (d - min (k - n) d) 0 ms
   whole-kept ms ih =
       let rest : ℕ = countFrom (sampleKept k) (n + d) (At (m .granule)) ms in
       let t : ℕ = countFrom sampleTrimmed (n + d) (At (m .granule)) ms in
       sym (add-assoc (n - k) (d - min (k - n) d) rest) ∙ ap (λ (z : ℕ). z + rest) (add-whole n k d) ∙ ih
-      ∙ ap (λ (z : ℕ). z - k) (add-assoc n d (decodedIn ms - t) ∙ ap (λ (z : ℕ). n + z) (sym (less-late d (decodedIn ms) t (few-trimmed k (n + d) (At (m .granule)) ms))))
+      ∙ ap (λ (z : ℕ). z - k) (add-assoc n d (decodedIn ms - t)
+      ∙ ap (λ (z : ℕ). n + z) (sym (less-late d (decodedIn ms) t (few-trimmed k (n + d) (At (m .granule)) ms))))
 
   cut-kept : (ms : List Mark) → ms ≡ [] → Kept (min (m .granule - at) d - min (k - n) d) (d - (m .granule - at)) ms
   unfolding countFrom decodedIn
@@ -145,7 +154,8 @@ module _ (k n : ℕ) (position : Position) (m : Mark) where
   cut-kept (o ∷ ms) e = absurd (cons≢nil e)
 
   kept-on : (ms : List Mark) (t : Bool) → m .last ≡ t → (m .last ≡ true → ms ≡ [])
-      → (n + d - k) + countFrom (sampleKept k) (n + d) (At (m .granule)) ms ≡ (n + d + (decodedIn ms - countFrom sampleTrimmed (n + d) (At (m .granule)) ms)) - k
+      → (n + d - k) + countFrom (sampleKept k) (n + d) (At (m .granule)) ms
+      ≡ (n + d + (decodedIn ms - countFrom sampleTrimmed (n + d) (At (m .granule)) ms)) - k
       → Kept (tally (sampleKept k n m at) d) (tally (sampleTrimmed n m at) d) ms
   kept-on ms true e end ih = rw (kept-cut e, trimmed-cut e) (cut-kept ms (end e))
   kept-on ms false e end ih = rw (kept-whole e, trimmed-none e) (whole-kept ms ih)
@@ -165,4 +175,5 @@ kept-all k a v e = omega arith
 pub closed-form : (k : ℕ) (ms : List Mark) → Legal Unset ms → keptCount k ms ≡ lastGranule ms - initial ms - holes ms - k
 closed-form k ms l =
     kept-all k (keptCount k ms) (decodedIn ms - trimmedCount ms) (kept-from k 0 Unset ms l)
-    ∙ ap (λ (v : ℕ). v - k) (reached (initial ms) (decodedIn ms) (holes ms) (lastGranule ms) (trimmedCount ms) (spans ms l) (few-trimmed k 0 Unset ms))
+    ∙ ap (λ (v : ℕ). v - k) (reached (initial ms) (decodedIn ms) (holes ms) (lastGranule ms) (trimmedCount ms) (spans ms l)
+    (few-trimmed k 0 Unset ms))

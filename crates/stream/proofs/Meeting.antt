@@ -79,7 +79,8 @@ begun-kept none = refl
 begun-kept (some b) = refl
 
 -- a packet completes, or none
-ended-close : (d : Bool) (x y : Seen) → x .completes ≡ true → y .completes ≡ true → y .packets ≡ dropIf d (x .packets) → y .left ≡ x .left → Close d x y
+ended-close : (d : Bool) (x y : Seen) → x .completes ≡ true → y .completes ≡ true → y .packets ≡ dropIf d (x .packets) → y .left ≡ x .left
+    → Close d x y
 ended-close d x y e f p l = record {
   completes = f ∙ sym e;
   packets = p;
@@ -183,7 +184,8 @@ module _ (R : Readings) (h : Head) (cr cq : Carried) (position : Position) (seri
   nothing-listed : (a : Carried) (q : Position) (z : Seen) → z .packets ≡ [] → stampsOn R (audio false a q serial next h) (pageOf b) z ≡ []
   unfolding stampsOn startOn stamps lengthsOf audioPackets
   nothing-listed a q z e =
-      ap (λ (l : List Bytes). stamps (from q (last (pageOf b)) (granuleOf (pageOf b)) (total (map (R .samplesOf (h .streams)) l))) (map (R .samplesOf (h .streams)) l)) e
+      ap (λ (l : List Bytes). stamps (from q (last (pageOf b)) (granuleOf (pageOf b)) (total (map (R .samplesOf (h .streams)) l)))
+      (map (R .samplesOf (h .streams)) l)) e
 
   module _ (nj : NotJoined position) (v : firstOf (checksOn R full b x) ≡ none) where
     other-shaped : Shaped R other b y
@@ -194,7 +196,8 @@ module _ (R : Readings) (h : Head) (cr cq : Carried) (position : Position) (seri
     going-passes e = silent-passes R other b y (c .completes ∙ e) other-shaped
 
     pub going-lists : x .completes ≡ false → stampsOn R other (pageOf b) y ≡ stampsOn R full (pageOf b) x
-    going-lists e = nothing-listed cq Joined y (c .packets ∙ ap (dropIf (isDropped cq)) (c .empty e)) ∙ sym (nothing-listed cr position x (c .empty e))
+    going-lists e = nothing-listed cq Joined y (c .packets ∙ ap (dropIf (isDropped cq)) (c .empty e))
+        ∙ sym (nothing-listed cr position x (c .empty e))
 
     -- a packet completes on a page marked last: 19
     pub last-refused : x .completes ≡ true → last (pageOf b) ≡ true → firstOf (checksOn R other b y) ≡ some NoPosition
@@ -207,10 +210,12 @@ module _ (R : Readings) (h : Head) (cr cq : Carried) (position : Position) (seri
     enough : x .completes ≡ true → last (pageOf b) ≡ false → total (lengthsOf R full x) ≤ granuleOf (pageOf b)
     enough e l = by position nj (rw l at (timed R full b x e v .reaches))
       where
-        by : (q : Position) → NotJoined q → tooSmall q false (granuleOf (pageOf b)) (total (lengthsOf R full x)) ≡ false → total (lengthsOf R full x) ≤ granuleOf (pageOf b)
+        by : (q : Position) → NotJoined q → tooSmall q false (granuleOf (pageOf b)) (total (lengthsOf R full x)) ≡ false
+            → total (lengthsOf R full x) ≤ granuleOf (pageOf b)
         by Unset n t = ltb-false (granuleOf (pageOf b)) (total (lengthsOf R full x)) t
         by Joined n t = absurd n
-        by (At g) n t = let k : g + total (lengthsOf R full x) ≤ granuleOf (pageOf b) = ltb-false (granuleOf (pageOf b)) (g + total (lengthsOf R full x)) t in omega arith
+        by (At g) n t = let k : g + total (lengthsOf R full x) ≤ granuleOf (pageOf b) = ltb-false (granuleOf (pageOf b))
+            (g + total (lengthsOf R full x)) t in omega arith
 
     enough-other : x .completes ≡ true → last (pageOf b) ≡ false → total (lengthsOf R other y) ≤ granuleOf (pageOf b)
     enough-other e l =
@@ -221,8 +226,14 @@ module _ (R : Readings) (h : Head) (cr cq : Carried) (position : Position) (seri
     pub next-passes : x .completes ≡ true → last (pageOf b) ≡ false → firstOf (checksOn R other b y) ≡ none
     next-passes e l =
         sounding-passes R other b y (c .completes ∙ e) other-shaped
-        (record { stands = rw l refl; skips = rw l refl; reaches = rw l (le-ltb (granuleOf (pageOf b)) (total (lengthsOf R other y)) (enough-other e l)) })
+        (record {
+          stands = rw l refl;
+          skips = rw l refl;
+          reaches = rw l
+              (le-ltb (granuleOf (pageOf b)) (total (lengthsOf R other y)) (enough-other e l));
+        })
 
-    pub next-lists : x .completes ≡ true → last (pageOf b) ≡ false → stampsOn R other (pageOf b) y ≡ dropIf (isDropped cq) (stampsOn R full (pageOf b) x)
+    pub next-lists : x .completes ≡ true → last (pageOf b) ≡ false
+        → stampsOn R other (pageOf b) y ≡ dropIf (isDropped cq) (stampsOn R full (pageOf b) x)
     unfolding stampsOn startOn from
     next-lists e l = rw (l, lengths-alike) (stamps-dropIf (isDropped cq) (lengthsOf R full x) (granuleOf (pageOf b)) (enough e l))

@@ -2,7 +2,7 @@
 use Prim.Native.Nat.{ℕ, zero, suc, _<_}
 use mathlib.Core.Path.{_≡_, refl, sym, ap, ap₂, subst, _∙_}
 use mathlib.Core.Bool.{Bool, true, false, not, _&&_, _||_}
-use mathlib.Core.List.{List, [], _∷_, map, nil≢cons}
+use mathlib.Core.List.{List, [], _∷_, _++_, map, nil≢cons}
 use mathlib.Core.Option.{Option, none, some}
 use native.Mathlib.Omega.{arith}
 use lib.Dec.{lit<}
@@ -13,8 +13,7 @@ use Rattle.octets.specs.Numbers.{value, octets, number}
 use Rattle.refusal.specs.declared.Refusal.{Refusal}
 use Rattle.refusal.specs.Told.{gives}
 use Rattle.ogg_crc.specs.Crc.{pageCrc}
-use Rattle.refusal.specs.Checks.{firstOf}
-use Rattle.ogg_page.specs.Writing.{startOf, writeTold}
+use Rattle.ogg_page.specs.Writing.{startOf}
 use Rattle.opus_head.specs.declared.Head.{Head}
 use Rattle.opus_head.specs.Fields.{streamsOf, headOf as fieldsOf}
 use Rattle.opus_packet.specs.Frames.{configSamples, frameSamples, coded, codedTimes, paddingFrom}
@@ -30,7 +29,7 @@ use Rattle.stream.specs.Feed.{view, start, openAt, Taken, Fed, fedBy, fe
 use Rattle.stream.specs.Stream.{segments, segmentsOf, packetsFrom, leftFrom, openFrom, openAfter, headOf, afterComment, audioPages, Mark, markFrom, marksFrom, marks, initial, holesFrom, countFrom}
 use Rattle.stream.specs.Feedings.{Shown, stream, bytesIn, bytesOf, stood}
 use Rattle.stream.specs.Statements.{pageFurther, audioIn, openedIn}
-use Rattle.stream.specs.Example.{R, headPage, tagsPage, firstPage, middlePage, holePage, lastPage, written, firstPlan, secondPlan, room, F, M, soundMarks, Meets, lentWith, shiftedPage, MeetsAlone}
+use Rattle.stream.specs.Example.{R, headPage, tagsPage, firstPage, middlePage, holePage, lastPage, written, firstPlan, secondPlan, room, F, M, soundMarks, Meets, lentWith, MeetsAlone}
 use Rattle.stream.proofs.Step.{expected, saw, feeds, feeds-short}
 use Rattle.stream.proofs.Clear.{some≢none}
 use Rattle.stream.proofs.Theorem1.{fresh}
@@ -40,7 +39,8 @@ use Rattle.stream.proofs.Theorem4.{after-same}
 use Rattle.stream.proofs.HeaderRun.{id-bytes}
 use Rattle.stream.proofs.Real.{opens-stream}
 use Rattle.stream.proofs.Plan.{roomy, lacks, Goes, wanted, PlanOctets, Followed, followed, plan-octets}
-use Rattle.stream.proofs.Example.{Reads, reads, head-step, head-reads, tags-reads, first-reads, middle-reads, hole-reads, last-reads, q0, stamp, last-step, opened-step, dropped-step, second-goes, room-enough, first-followed, page-octets}
+use Rattle.stream.proofs.Example.{Reads, pages, stamp, q0, steps, second-goes, room-enough, first-followed}
+use Rattle.stream.proofs.WrittenOctets.{page-octets}
 
 abbrev S : List Shown
 S = stream R start F
@@ -49,49 +49,33 @@ S = stream R start F
 abbrev audioBytes : List Bytes
 audioBytes = written firstPage ∷ written middlePage ∷ written holePage ∷ written lastPage ∷ []
 
-pages : bytesOf S ≡ written headPage ∷ written tagsPage ∷ audioBytes
+pages-are : bytesOf S ≡ written headPage ∷ written tagsPage ∷ audioBytes
 unfolding F
-pages = first-followed .accepted
+pages-are = first-followed .accepted
 
 -- ---- the bytes are bytes
-
-head-octets : Octets (written headPage)
-unfolding startOf octets
-head-octets = page-octets headPage refl
-
-tags-octets : Octets (written tagsPage)
-unfolding startOf octets
-tags-octets = page-octets tagsPage refl
-
-first-octets : Octets (written firstPage)
-unfolding startOf octets
-first-octets = page-octets firstPage refl
-
-middle-octets : Octets (written middlePage)
-unfolding startOf octets
-middle-octets = page-octets middlePage refl
-
-hole-octets : Octets (written holePage)
-unfolding startOf octets
-hole-octets = page-octets holePage refl
-
-last-octets : Octets (written lastPage)
-unfolding startOf octets
-last-octets = page-octets lastPage refl
 
 no-octets : Octets []
 no-octets = record { below = λ i. lit< tt }
 
 plan-is-octets : PlanOctets firstPlan
-plan-is-octets = (head-octets, (head-octets, (no-octets, (tags-octets, (first-octets, (first-octets, (middle-octets, (hole-octets, (last-octets, tt)))))))))
+unfolding startOf octets
+plan-is-octets =
+    let head = page-octets headPage refl in
+    let tags = page-octets tagsPage refl in
+    let first = page-octets firstPage refl in
+    let middle = page-octets middlePage refl in
+    let hole = page-octets holePage refl in
+    let end = page-octets lastPage refl in
+    (head, (head, (no-octets, (tags, (first, (first, (middle, (hole, (end, tt)))))))))
 
 -- ---- the header, and the second reader
 
 head-is : headOf R (bytesOf S) ≡ fieldsOf (headPage .body)
 unfolding headOf readings packetsFrom segmentsOf segments
 head-is =
-    ap (headOf R) pages
-    ∙ ap (λ (p : Page). fieldsOf (firstPacket (packetsFrom [] (segmentsOf p)))) (head-reads .page)
+    ap (headOf R) pages-are
+    ∙ ap (λ (p : Page). fieldsOf (firstPacket (packetsFrom [] (segmentsOf p)))) (pages .head .page)
 
 opened-is : view (openedIn R F .core) [] ≡ q0
 unfolding fieldsOf number value streamsOf
@@ -121,47 +105,41 @@ audio-same (x ∷ xs) = sym (after-same xs)
 
 tags-complete : completes (pageOf (written tagsPage)) ≡ true
 unfolding completes ends
-tags-complete = ap completes (tags-reads .page)
+tags-complete = ap completes (pages .tags .page)
 
 audio-is : bytesOf (audioIn R F) ≡ audioBytes
 unfolding audioPages afterComment
 audio-is =
-    audio-same S ∙ ap (audioPages id-bytes) pages
+    audio-same S ∙ ap (audioPages id-bytes) pages-are
     ∙ ap (λ (t : Bool). pick t audioBytes (afterComment id-bytes audioBytes)) tags-complete
 
 -- ---- what the second reader is told
 
 told-is : toldAll R q0 (written middlePage ∷ written holePage ∷ written lastPage ∷ []) ≡ gives [] ∷ gives [] ∷ gives (stamp 3480 ∷ []) ∷ []
-told-is = rw (opened-step .passes, opened-step .follows, opened-step .lists, dropped-step .passes, dropped-step .follows, dropped-step .lists, last-step .passes, last-step .lists) refl
+told-is = rw (steps .opened .passes, steps .opened .follows, steps .opened .lists, steps .dropped .passes, steps .dropped .follows, steps .dropped .lists, steps .end .passes, steps .end .lists) refl
 
 -- ---- the marks
 
 mark-on : (n : ℕ) (h b : Bytes) (p : Page) (bs : List Bytes) → Reads b p
-    → marksFrom R n h (b ∷ bs) ≡ pick (completes p) (markFrom R n h p ∷ marksFrom R n (leftFrom h (segmentsOf p)) bs) (marksFrom R n (leftFrom h (segmentsOf p)) bs)
+    → marksFrom R n h (b ∷ bs) ≡ pick (completes p) (markFrom R n h p ∷ marksFrom R n (leftFrom h (segmentsOf p)) bs)
+    (marksFrom R n (leftFrom h (segmentsOf p)) bs)
 unfolding marksFrom
 mark-on n h b p bs k =
-    ap (λ (q : Page). pick (completes q) (markFrom R n h q ∷ marksFrom R n (leftFrom h (segmentsOf q)) bs) (marksFrom R n (leftFrom h (segmentsOf q)) bs)) (k .page)
+    ap (λ (q : Page). pick (completes q) (markFrom R n h q ∷ marksFrom R n (leftFrom h (segmentsOf q)) bs)
+    (marksFrom R n (leftFrom h (segmentsOf q)) bs)) (k .page)
 
-from-last : marksFrom R 1 [] (written lastPage ∷ []) ≡ drop 2 soundMarks
-unfolding marksFrom segmentsOf segments packetsFrom completes ends last readings packetLengths parse shapeOf frameSamples configSamples coded codedTimes countedShape paddingFrom total
-from-last = mark-on 1 [] (written lastPage) lastPage [] last-reads
-
-from-hole : marksFrom R 1 (replicate 510 0) (written holePage ∷ written lastPage ∷ []) ≡ drop 1 soundMarks
-unfolding segmentsOf segments packetsFrom leftFrom completes ends last readings packetLengths parse shapeOf frameSamples configSamples coded codedTimes countedShape paddingFrom total
-from-hole = mark-on 1 (replicate 510 0) (written holePage) holePage (written lastPage ∷ []) hole-reads ∙ ap (λ (ms : List Mark). (record { granule = 3000; lengths = 480 ∷ []; last = false }) ∷ ms) from-last
-
-from-middle : marksFrom R 1 (replicate 255 0) (written middlePage ∷ written holePage ∷ written lastPage ∷ []) ≡ drop 1 soundMarks
-unfolding segmentsOf segments leftFrom completes ends
-from-middle = mark-on 1 (replicate 255 0) (written middlePage) middlePage (written holePage ∷ written lastPage ∷ []) middle-reads ∙ from-hole
-
-from-first : marksFrom R 1 [] audioBytes ≡ soundMarks
-unfolding segmentsOf segments packetsFrom leftFrom completes ends last readings packetLengths parse shapeOf frameSamples configSamples coded codedTimes countedShape paddingFrom total
-from-first =
-    mark-on 1 [] (written firstPage) firstPage (written middlePage ∷ written holePage ∷ written lastPage ∷ []) first-reads ∙ ap (λ (ms : List Mark). (record { granule = 1000; lengths = 480 ∷ []; last = false }) ∷ ms) from-middle
+sounds-are : marksFrom R 1 [] audioBytes ≡ soundMarks
+unfolding marksFrom segmentsOf segments packetsFrom leftFrom completes ends last readings packetLengths parse shapeOf frameSamples configSamples coded codedTimes countedShape paddingFrom total
+sounds-are =
+    mark-on 1 [] (written firstPage) firstPage (drop 1 audioBytes) (pages .first)
+    ∙ ap (λ (ms : List Mark). take 1 soundMarks ++ ms)
+    (mark-on 1 (replicate 255 0) (written middlePage) middlePage (drop 2 audioBytes) (pages .middle)
+    ∙ mark-on 1 (replicate 510 0) (written holePage) holePage (drop 3 audioBytes) (pages .hole)
+    ∙ ap (λ (ms : List Mark). take 1 (drop 1 soundMarks) ++ ms) (mark-on 1 [] (written lastPage) lastPage [] (pages .end)))
 
 marks-are : marks R (bytesOf S) ≡ soundMarks
 unfolding marks fieldsOf streamsOf
-marks-are = ap₂ (λ (h : Head) (bs : List Bytes). marksFrom R (h .streams) [] bs) head-is (sym (audio-same S) ∙ audio-is) ∙ from-first
+marks-are = ap₂ (λ (h : Head) (bs : List Bytes). marksFrom R (h .streams) [] bs) head-is (sym (audio-same S) ∙ audio-is) ∙ sounds-are
 
 -- ---- began, and stood
 
@@ -169,7 +147,7 @@ began-is : openAfter false (bytesOf (take 1 (audioIn R F))) ≡ true
 unfolding openAfter openFrom segmentsOf segments
 began-is =
     ap (openAfter false) (map-take bytesIn 1 (audioIn R F) ∙ ap (take 1) audio-is)
-    ∙ ap (λ (p : Page). openFrom false (segmentsOf p)) (first-reads .page)
+    ∙ ap (λ (p : Page). openFrom false (segmentsOf p)) (pages .first .page)
 
 abbrev stoodIn : List Bytes → Bool
 stoodIn [] = false
@@ -184,7 +162,7 @@ stands-is : stood (drop 1 (audioIn R F)) ≡ true
 unfolding completes ends last
 stands-is =
     stood-bytes (drop 1 (audioIn R F)) ∙ ap stoodIn (map-drop bytesIn 1 (audioIn R F) ∙ ap (drop 1) audio-is)
-    ∙ rw (middle-reads .page, hole-reads .page) refl
+    ∙ rw (pages .middle .page, pages .hole .page) refl
 
 some-pages : (xs : List Shown) {b : Bytes} {bs : List Bytes} → bytesOf xs ≡ b ∷ bs → 0 < length xs
 some-pages [] e = absurd (nil≢cons e)
@@ -197,8 +175,8 @@ meets =
     record {
       handed = first-followed .handed;
       bytes = bytes-all;
-      pages = pages;
-      opens = opens-stream pageCrc F bytes-all (first-followed .handed) (some-pages S pages);
+      pages = pages-are;
+      opens = opens-stream pageCrc F bytes-all (first-followed .handed) (some-pages S pages-are);
       handedOn = second-followed .handed;
       roomy = second-followed .room;
       same = second-followed .marks ∙ sym (map-drop bytesIn 1 (audioIn R F) ∙ ap (drop 1) audio-is);
@@ -216,31 +194,28 @@ meets =
 
 -- ---- the others
 
-shifted-reads : Reads (written shiftedPage) shiftedPage
-unfolding writeTold firstOf total
-shifted-reads = reads shiftedPage (record { flags = lit< tt; granule = lit< tt; serial = lit< tt; sequence = lit< tt }) refl
-
 told-by : (v : Option Refusal) → v ≡ none
-    → (t : Taken) × (fedBy v R start (lentWith room) (expected start room (written headPage)) (pageOf (written headPage)) (saw start room (written headPage)) .told ≡ gives t)
+    → (t : Taken) × (fedBy v R start (lentWith room) (expected start room (written headPage)) (pageOf (written headPage))
+    (saw start room (written headPage)) .told ≡ gives t)
 told-by none e = (_, refl)
 told-by (some n) e = absurd (some≢none e)
 
 first-taken : (t : Taken) × (feed R start (lentWith room) (written headPage) .told ≡ gives t)
 first-taken =
-    let k = told-by (verdict R fresh (written headPage)) (head-step .passes) in
+    let k = told-by (verdict R fresh (written headPage)) (steps .head .passes) in
     (k .0, ap (λ (f : Fed). f .told) (feeds R start (lentWith room) (written headPage) (roomy room room-enough)) ∙ k .1)
 
 pub meets-alone : MeetsAlone
 meets-alone = record {
   refused = ap (λ (f : Fed). f .told) (feeds-short R start (lentWith []) (written headPage) lacks);
   accepted = first-taken;
-  octets = head-octets;
+  octets = plan-is-octets .0;
   roomy = roomy room room-enough;
   further = record {
-    page = shifted-reads .page ∙ sym (ap (pageFurther 5) (hole-reads .page));
-    isPage = shifted-reads .isPage ∙ sym (hole-reads .isPage);
-    isSealed = shifted-reads .isSealed ∙ sym (hole-reads .isSealed);
-    fits = rw (hole-reads .page) (lit< tt);
+    page = pages .shifted .page ∙ sym (ap (pageFurther 5) (pages .hole .page));
+    isPage = pages .shifted .isPage ∙ sym (pages .hole .isPage);
+    isSealed = pages .shifted .isSealed ∙ sym (pages .hole .isSealed);
+    fits = rw (pages .hole .page) (lit< tt);
   };
   alike = refl;
   going = refl;

@@ -55,14 +55,18 @@ first-fits n m [] body e = by (eqb m 0)
     by true = let k : n + m ≤ packetMax = size in omega arith
     by false = let k : n + m ≤ packetMax = size in let j : length (take m body) ≤ m = take-le m body in omega arith
 first-fits n m (v ∷ l) body e =
-    by (ltb v 255) (λ (k : longFrom (n + m + v) l ≡ false). first-fits n (m + v) l body (subst (λ (z : ℕ). longFrom z l ≡ false) (add-assoc n m v) k)) e
+    by (ltb v 255) (λ (k : longFrom (n + m + v) l ≡ false). first-fits n (m + v) l body
+    (subst (λ (z : ℕ). longFrom z l ≡ false) (add-assoc n m v) k)) e
   where
     by : (t : Bool) → (longFrom (n + m + v) l ≡ false → n + length (firstPiece (wholeFrom (m + v) l body) (restFrom (m + v) l body)) ≤ packetMax)
-        → (anyLong (pick t ((n + m + v) ∷ endedFrom 0 l) (endedFrom (n + m + v) l)) || tooLong (pick t (unfinishedFrom 0 l) (unfinishedFrom (n + m + v) l))) ≡ false
+        → (anyLong (pick t ((n + m + v) ∷ endedFrom 0 l) (endedFrom (n + m + v) l)) || tooLong
+        (pick t (unfinishedFrom 0 l) (unfinishedFrom (n + m + v) l))) ≡ false
         → n + length (firstPiece (onwards t (m + v) l body .whole)
         (pick (eqb (pick t (unfinishedFrom 0 l) (unfinishedFrom (m + v) l)) 0) none (some (onwards t (m + v) l body .rest)))) ≤ packetMax
     by true again k =
-        let s : n + m + v ≤ packetMax = short (n + m + v) (or-left (tooLong (n + m + v)) (anyLong (endedFrom 0 l)) (or-left (tooLong (n + m + v) || anyLong (endedFrom 0 l)) (tooLong (unfinishedFrom 0 l)) k)) in
+        let s : n + m + v ≤ packetMax = short (n + m + v)
+        (or-left (tooLong (n + m + v)) (anyLong (endedFrom 0 l))
+        (or-left (tooLong (n + m + v) || anyLong (endedFrom 0 l)) (tooLong (unfinishedFrom 0 l)) k)) in
         let j : length (take (m + v) body) ≤ m + v = take-le (m + v) body in
         omega arith
     by false again k = again k
@@ -72,9 +76,11 @@ first-fits n m (v ∷ l) body e =
 pub rest-size : (n m : ℕ) (l body : Bytes) → length (cutFrom m l body .rest) ≤ unfinishedFrom (n + m) l
 unfolding cutFrom unfinishedFrom
 rest-size n m [] body = let j : length (take m body) ≤ m = take-le m body in omega arith
-rest-size n m (v ∷ l) body = by (ltb v 255) (rest-size 0 0 l (drop (m + v) body)) (subst (λ (z : ℕ). length (cutFrom (m + v) l body .rest) ≤ unfinishedFrom z l) (sym (add-assoc n m v)) (rest-size n (m + v) l body))
+rest-size n m (v ∷ l) body = by (ltb v 255) (rest-size 0 0 l (drop (m + v) body))
+    (subst (λ (z : ℕ). length (cutFrom (m + v) l body .rest) ≤ unfinishedFrom z l) (sym (add-assoc n m v)) (rest-size n (m + v) l body))
   where
-    by : (t : Bool) → length (cutFrom 0 l (drop (m + v) body) .rest) ≤ unfinishedFrom (0 + 0) l → length (cutFrom (m + v) l body .rest) ≤ unfinishedFrom (n + m + v) l
+    by : (t : Bool) → length (cutFrom 0 l (drop (m + v) body) .rest) ≤ unfinishedFrom (0 + 0) l
+        → length (cutFrom (m + v) l body .rest) ≤ unfinishedFrom (n + m + v) l
         → length (onwards t (m + v) l body .rest) ≤ pick t (unfinishedFrom 0 l) (unfinishedFrom (n + m + v) l)
     by true anew again = anew
     by false anew again = again
@@ -97,7 +103,8 @@ long-dropped n [] e = refl
 long-dropped n (v ∷ l) e = by (ltb v 255) (long-dropped (n + v) l) e
   where
     by : (t : Bool) → (longFrom (n + v) l ≡ false → longFrom 0 (afterFirst l) ≡ false)
-        → (anyLong (pick t ((n + v) ∷ endedFrom 0 l) (endedFrom (n + v) l)) || tooLong (pick t (unfinishedFrom 0 l) (unfinishedFrom (n + v) l))) ≡ false
+        → (anyLong (pick t ((n + v) ∷ endedFrom 0 l) (endedFrom (n + v) l)) || tooLong
+        (pick t (unfinishedFrom 0 l) (unfinishedFrom (n + v) l))) ≡ false
         → (anyLong (endedFrom 0 (pick t l (afterFirst l))) || tooLong (unfinishedFrom 0 (pick t l (afterFirst l)))) ≡ false
     by true again k =
         or-none (anyLong (endedFrom 0 l)) (tooLong (unfinishedFrom 0 l))
@@ -181,7 +188,8 @@ new-fits dropped p e = by (whole p) refl
     by (w ∷ ws) k =
         let done : ends (p .lacing) ≡ true = sym (whole-ends 0 (p .lacing) (p .body)) ∙ ap nonEmpty k in
         rest-fits 0 (p .lacing) (p .body)
-        (ap tooLong (after-first 0 (p .lacing) done) ∙ or-right (anyLong (endedFrom 0 (afterFirst (p .lacing)))) (tooLong (unfinishedFrom 0 (afterFirst (p .lacing)))) e)
+        (ap tooLong (after-first 0 (p .lacing) done)
+        ∙ or-right (anyLong (endedFrom 0 (afterFirst (p .lacing)))) (tooLong (unfinishedFrom 0 (afterFirst (p .lacing)))) e)
 new-fits (held n h) p e = by (whole p)
   where
     by : (ws : List Bytes) → RestFits (newRest (held n h) ws (rest p))

@@ -103,7 +103,8 @@ module _ (R : Readings) (r : Reader) (old : Bytes) (f : Feeding) (ms : List Mark
     accepted = by (fed .told) e ∙ k .accepted;
   }
     where
-      by : (t : Told Taken) → isRefused t ≡ true → bytesOf (showAs t (fed .entries) (f .bytes) (stream R gone (allOf ms))) ≡ bytesOf (stream R gone (allOf ms))
+      by : (t : Told Taken) → isRefused t ≡ true
+          → bytesOf (showAs t (fed .entries) (f .bytes) (stream R gone (allOf ms))) ≡ bytesOf (stream R gone (allOf ms))
       by (gives t) e = absurd (false≢true e)
       by (refuses n) e = refl
 
@@ -119,7 +120,8 @@ module _ (R : Readings) (r : Reader) (old : Bytes) (f : Feeding) (ms : List Mark
     accepted = by (fed .told) e ∙ ap (λ (l : List Bytes). f .bytes ∷ l) (k .accepted);
   }
     where
-      by : (t : Told Taken) → isRefused t ≡ false → bytesOf (showAs t (fed .entries) (f .bytes) (stream R gone (allOf ms))) ≡ f .bytes ∷ bytesOf (stream R gone (allOf ms))
+      by : (t : Told Taken) → isRefused t ≡ false
+          → bytesOf (showAs t (fed .entries) (f .bytes) (stream R gone (allOf ms))) ≡ f .bytes ∷ bytesOf (stream R gone (allOf ms))
       by (gives t) e = refl
       by (refuses n) e = absurd (true≢false e)
 
@@ -130,9 +132,11 @@ refused-by R r m s b (some n) = refl
 -- the plans after one feeding
 abbrev pub Again : Readings → List Planned → Type 0
 Again R ps =
-    (r : Reader) (c old : Bytes) → packetMax ≤ length c → Agrees r c old → Goes R (view (r .core) old) ps → Followed R r old (follow R r c ps) (wanted ps)
+    (r : Reader) (c old : Bytes) → packetMax ≤ length c → Agrees r c old → Goes R (view (r .core) old) ps
+    → Followed R r old (follow R r c ps) (wanted ps)
 
-module _ (R : Readings) (b : Bytes) (ps : List Planned) (r : Reader) (c old : Bytes) (room : packetMax ≤ length c) (agrees : Agrees r c old) (again : Again R ps) where
+module _ (R : Readings) (b : Bytes) (ps : List Planned) (r : Reader) (c old : Bytes) (room : packetMax ≤ length c) (agrees : Agrees r c old)
+    (again : Again R ps) where
   abbrev f-short : Feeding
   f-short = record { bytes = b; lent = lentWith [] }
 
@@ -154,7 +158,8 @@ module _ (R : Readings) (b : Bytes) (ps : List Planned) (r : Reader) (c old : By
       (ap (λ (x : Fed). isRefused (x .told)) (feeds-short R r (lentWith []) b lacks))
       (again (readerAfter R r f-short) c (leftIn R r f-short old) room
       (subst (λ (d : Bytes). Agrees (readerAfter R r f-short) c d) (sym left-short) (subst (λ (q : Reader). Agrees q c old) (sym stays) agrees))
-      (subst (λ (d : Bytes). Goes R (view (readerAfter R r f-short .core) d) ps) (sym left-short) (subst (λ (q : Reader). Goes R (view (q .core) old) ps) (sym stays) g)))
+      (subst (λ (d : Bytes). Goes R (view (readerAfter R r f-short .core) d) ps) (sym left-short)
+      (subst (λ (q : Reader). Goes R (view (q .core) old) ps) (sym stays) g)))
 
   steps : Turn R r old f-room
   steps = turn R r old f-room (roomy c room) agrees
@@ -166,17 +171,21 @@ module _ (R : Readings) (b : Bytes) (ps : List Planned) (r : Reader) (c old : By
   is-refused = ap (λ (g : Fed). isRefused (g .told)) (steps .feeds) ∙ refused-by R r (lentWith c) now b (verdict R now b)
 
   then-follows : Goes R (stateBy (verdict R now b) now (after R now b)) ps
-      → Followed R (readerAfter R r f-room) (leftIn R r f-room old) (follow R (readerAfter R r f-room) (feedIn R r f-room .lent .carry) ps) (wanted ps)
+      → Followed R (readerAfter R r f-room) (leftIn R r f-room old) (follow R (readerAfter R r f-room) (feedIn R r f-room .lent .carry) ps)
+      (wanted ps)
   then-follows g =
       again (readerAfter R r f-room) (feedIn R r f-room .lent .carry) (leftIn R r f-room old)
       (subst (λ (n : ℕ). packetMax ≤ n) (sym (fed-length R r (lentWith c) b)) room)
       (ap (take (heldOf (readerAfter R r f-room .core .pending))) (sym left-room))
-      (subst (λ (d : Bytes). Goes R (view (readerAfter R r f-room .core) d) ps) (sym left-room) (subst (λ (s : State). Goes R s ps) (sym (steps .steps .view)) g))
+      (subst (λ (d : Bytes). Goes R (view (readerAfter R r f-room .core) d) ps) (sym left-room)
+      (subst (λ (s : State). Goes R s ps) (sym (steps .steps .view)) g))
 
   taken-plan : verdict R now b ≡ none → Goes R (after R now b) ps
-      → Followed R r old (record { mark = true; fed = f-room } ∷ follow R (readerAfter R r f-room) (feedIn R r f-room .lent .carry) ps) (b ∷ wanted ps)
+      → Followed R r old (record { mark = true; fed = f-room } ∷ follow R (readerAfter R r f-room) (feedIn R r f-room .lent .carry) ps)
+      (b ∷ wanted ps)
   taken-plan v g =
-      taken R r old f-room (follow R (readerAfter R r f-room) (feedIn R r f-room .lent .carry) ps) (wanted ps) (roomy c room) agrees (is-refused ∙ ap isSome v)
+      taken R r old f-room (follow R (readerAfter R r f-room) (feedIn R r f-room .lent .carry) ps) (wanted ps) (roomy c room) agrees
+      (is-refused ∙ ap isSome v)
       (then-follows (subst (λ (w : Option Refusal). Goes R (stateBy w now (after R now b)) ps) (sym v) g))
 
   refused-state : (v : Option Refusal) → isSome v ≡ true → now ≡ stateBy v now (after R now b)
@@ -205,4 +214,8 @@ followed R (p ∷ ps) r c old room agrees g = plan R (p .bytes) ps r c old room 
 pub plan-octets : (R : Readings) (ps : List Planned) (r : Reader) (c : Bytes) → PlanOctets ps → AllOctets (allOf (follow R r c ps))
 unfolding follow allOf
 plan-octets R [] r c o = tt
-plan-octets R (p ∷ ps) r c o = (o .0, plan-octets R ps (readerAfter R r (feeding p c)) (pick (p .short) c (feedIn R r (feeding p c) .lent .carry)) (o .1))
+plan-octets R (p ∷ ps) r c o = (
+  o .0,
+  plan-octets R ps (readerAfter R r (feeding p c))
+      (pick (p .short) c (feedIn R r (feeding p c) .lent .carry)) (o .1),
+)

@@ -105,7 +105,8 @@ unfolding stream
 stream-octets R r [] o = tt
 stream-octets R r (f ∷ fs) o = by (feedIn R r f .told) (stream-octets R (readerAfter R r f) fs (o .1))
   where
-    by : (t : Told Taken) → AllShown (stream R (readerAfter R r f) fs) → AllShown (showAs t (feedIn R r f .entries) (f .bytes) (stream R (readerAfter R r f) fs))
+    by : (t : Told Taken) → AllShown (stream R (readerAfter R r f) fs)
+        → AllShown (showAs t (feedIn R r f .entries) (f .bytes) (stream R (readerAfter R r f) fs))
     by (gives t) k = (o .0, k)
     by (refuses n) k = k
 
@@ -118,7 +119,8 @@ stream-head : (crc : Bytes → ℕ) (S : List Shown) → AllShown S → Lists (r
 unfolding headOf readings
 stream-head crc [] o f some-page = absurd (omega arith)
 stream-head crc (x ∷ xs) o f some-page =
-    ap (λ (ws : List Bytes). rightHead (fieldsOf (firstPacket ws))) (sym (joins false [] (pageOf (x .bytes)) (λ w. refl) .packets) ∙ nothing-joins (pageOf (x .bytes)))
+    ap (λ (ws : List Bytes). rightHead (fieldsOf (firstPacket ws)))
+    (sym (joins false [] (pageOf (x .bytes)) (λ w. refl) .packets) ∙ nothing-joins (pageOf (x .bytes)))
     ∙ head-right crc (x .bytes) (o .0) (f .0)
 
 pub opens-stream : OpensStream

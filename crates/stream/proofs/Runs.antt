@@ -90,9 +90,11 @@ runs R [] r old h = record { lists = tt; state = refl; skips = refl }
 runs R (f ∷ fs) r old h = by (isShort (f .lent)) refl (h .0) (runs R fs (readerAfter R r f) (leftIn R r f old) (h .1))
   where
     by : (t : Bool) → isShort (f .lent) ≡ t → (t ≡ false → take (heldOf (r .core .pending)) (f .lent .carry) ≡ take (heldOf (r .core .pending)) old)
-        → Ran-on R r (view (r .core) old) (view (readerAfter R r f .core) (pick t old (feedIn R r f .lent .carry))) (f .bytes) fs (carryLeft R (readerAfter R r f) (leftIn R r f old) fs) (feedIn R r f)
+        → Ran-on R r (view (r .core) old) (view (readerAfter R r f .core) (pick t old (feedIn R r f .lent .carry))) (f .bytes) fs
+        (carryLeft R (readerAfter R r f) (leftIn R r f old) fs) (feedIn R r f)
     by true e agrees =
-        subst (λ (g : Fed). Ran-on R r (view (r .core) old) (view (readerBy (g .told) r .core) old) (f .bytes) fs (carryLeft R (readerAfter R r f) (leftIn R r f old) fs) g)
+        subst (λ (g : Fed). Ran-on R r (view (r .core) old) (view (readerBy (g .told) r .core) old) (f .bytes) fs
+        (carryLeft R (readerAfter R r f) (leftIn R r f old) fs) g)
         (sym (feeds-short R r (f .lent) (f .bytes) e)) (λ k. k)
     by false e agrees =
         let s : State = view (r .core) old in
@@ -135,7 +137,8 @@ module _ (R : Readings) (m : Marked) (ms : List Marked) (r : Reader) (old : Byte
   -- what is to be shown, t being the mark
   record More (t : Bool) : Type 0 where
     told : pick t (tell fed ∷ toldAtMarks R gone ms) (toldAtMarks R gone ms) ≡ toldAll R now (pick t (m .fed .bytes ∷ marked ms) (marked ms))
-    state : view (finally R gone (allOf ms) .core) (carryLeft R gone left (allOf ms)) ≡ afterTold R now (pick t (m .fed .bytes ∷ marked ms) (marked ms))
+    state : view (finally R gone (allOf ms) .core) (carryLeft R gone left (allOf ms))
+        ≡ afterTold R now (pick t (m .fed .bytes ∷ marked ms) (marked ms))
 
   abbrev Step : Type 0
   Step = Second R (view (gone .core) left) ms gone left
@@ -150,25 +153,30 @@ module _ (R : Readings) (m : Marked) (ms : List Marked) (r : Reader) (old : Byte
   -- it has no room
   short-stays : isShort (m .fed .lent) ≡ true → view (gone .core) left ≡ now
   short-stays e =
-      ap (λ (g : Fed). view (readerBy (g .told) r .core) (pick (isShort (m .fed .lent)) old (g .lent .carry))) (feeds-short R r (m .fed .lent) (m .fed .bytes) e)
+      ap (λ (g : Fed). view (readerBy (g .told) r .core) (pick (isShort (m .fed .lent)) old (g .lent .carry)))
+      (feeds-short R r (m .fed .lent) (m .fed .bytes) e)
       ∙ ap (λ (t : Bool). view (r .core) (pick t old (m .fed .lent .carry))) e
 
   -- it has room
-  room-steps : isShort (m .fed .lent) ≡ false → (k : Turn R r old (m .fed)) → view (gone .core) left ≡ stateBy (verdict R now (m .fed .bytes)) now (after R now (m .fed .bytes))
+  room-steps : isShort (m .fed .lent) ≡ false → (k : Turn R r old (m .fed))
+      → view (gone .core) left ≡ stateBy (verdict R now (m .fed .bytes)) now (after R now (m .fed .bytes))
   room-steps e k = ap (λ (t : Bool). view (gone .core) (pick t old (fed .lent .carry))) e ∙ k .steps .view
 
   refused-stays : isShort (m .fed .lent) ≡ false → Turn R r old (m .fed) → isRefused (fed .told) ≡ true → view (gone .core) left ≡ now
   refused-stays e k h =
       room-steps e k
-      ∙ refused-state R r (m .fed .lent) now (m .fed .bytes) (verdict R now (m .fed .bytes)) (sym (ap (λ (g : Fed). isRefused (g .told)) (k .feeds)) ∙ h)
+      ∙ refused-state R r (m .fed .lent) now (m .fed .bytes) (verdict R now (m .fed .bytes))
+      (sym (ap (λ (g : Fed). isRefused (g .told)) (k .feeds)) ∙ h)
 
   marked-steps : isShort (m .fed .lent) ≡ false → Turn R r old (m .fed) → Step → More true
   marked-steps e k n = record {
-    told = ap₂ (λ (a : Told (List Stamp)) (l : List (Told (List Stamp))). a ∷ l) (k .steps .told) (n .told ∙ ap (λ (s : State). toldAll R s (marked ms)) (room-steps e k));
+    told = ap₂ (λ (a : Told (List Stamp)) (l : List (Told (List Stamp))). a ∷ l) (k .steps .told)
+        (n .told ∙ ap (λ (s : State). toldAll R s (marked ms)) (room-steps e k));
     state = n .state ∙ ap (λ (s : State). afterTold R s (marked ms)) (room-steps e k);
   }
 
-  more : (t b : Bool) → isShort (m .fed .lent) ≡ b → (b ≡ false → take (heldOf (r .core .pending)) (m .fed .lent .carry) ≡ take (heldOf (r .core .pending)) old)
+  more : (t b : Bool) → isShort (m .fed .lent) ≡ b
+      → (b ≡ false → take (heldOf (r .core .pending)) (m .fed .lent .carry) ≡ take (heldOf (r .core .pending)) old)
       → (t ≡ true → b ≡ false) → T (t || isRefused (fed .told)) → Step → More t
   more true true e agrees room o k = absurd (true≢false (room refl))
   more false true e agrees room o k = passed-over (short-stays e) k

@@ -40,10 +40,12 @@ packets-cut h m (v ∷ l) body =
   where
     by : (t : Bool) → packetsFrom [] (segments l (drop (m + v) body)) ≡ addFirst [] (wholeFrom 0 l (drop (m + v) body))
         → packetsFrom (h ++ take (m + v) body) (segments l (drop (m + v) body)) ≡ addFirst h (wholeFrom (m + v) l body)
-        → pick t (((h ++ take m body) ++ take v (drop m body)) ∷ packetsFrom [] (segments l (drop v (drop m body)))) (packetsFrom ((h ++ take m body) ++ take v (drop m body)) (segments l (drop v (drop m body))))
+        → pick t (((h ++ take m body) ++ take v (drop m body)) ∷ packetsFrom [] (segments l (drop v (drop m body))))
+        (packetsFrom ((h ++ take m body) ++ take v (drop m body)) (segments l (drop v (drop m body))))
         ≡ addFirst h (onwards t (m + v) l body .whole)
     by true anew again =
-        rw (further h body m v, drop-drop v m body) (ap (λ (ws : List Bytes). (h ++ take (m + v) body) ∷ ws) (anew ∙ add-none (wholeFrom 0 l (drop (m + v) body))))
+        rw (further h body m v, drop-drop v m body)
+        (ap (λ (ws : List Bytes). (h ++ take (m + v) body) ∷ ws) (anew ∙ add-none (wholeFrom 0 l (drop (m + v) body))))
     by false anew again = rw (further h body m v, drop-drop v m body) again
 
 left-cut : (h : Bytes) (m : ℕ) (l body : Bytes)
@@ -56,9 +58,12 @@ left-cut h m (v ∷ l) body = by (ltb v 255) (left-cut [] 0 l (drop (m + v) body
     same true s = refl
     same false s = refl
 
-    by : (t : Bool) → leftFrom [] (segments l (drop (m + v) body)) ≡ pick (ends l) (cutFrom 0 l (drop (m + v) body) .rest) ([] ++ cutFrom 0 l (drop (m + v) body) .rest)
-        → leftFrom (h ++ take (m + v) body) (segments l (drop (m + v) body)) ≡ pick (ends l) (cutFrom (m + v) l body .rest) (h ++ cutFrom (m + v) l body .rest)
-        → pick t (leftFrom [] (segments l (drop v (drop m body)))) (leftFrom ((h ++ take m body) ++ take v (drop m body)) (segments l (drop v (drop m body))))
+    by : (t : Bool) → leftFrom [] (segments l (drop (m + v) body))
+        ≡ pick (ends l) (cutFrom 0 l (drop (m + v) body) .rest) ([] ++ cutFrom 0 l (drop (m + v) body) .rest)
+        → leftFrom (h ++ take (m + v) body) (segments l (drop (m + v) body))
+        ≡ pick (ends l) (cutFrom (m + v) l body .rest) (h ++ cutFrom (m + v) l body .rest)
+        → pick t (leftFrom [] (segments l (drop v (drop m body))))
+        (leftFrom ((h ++ take m body) ++ take v (drop m body)) (segments l (drop v (drop m body))))
         ≡ pick (t || ends l) (onwards t (m + v) l body .rest) (h ++ onwards t (m + v) l body .rest)
     by true anew again = rw (drop-drop v m body) (anew ∙ same (ends l) (cutFrom 0 l (drop (m + v) body) .rest))
     by false anew again = rw (further h body m v, drop-drop v m body) again
@@ -95,7 +100,8 @@ unfolding ends openFrom segments
 open-on [] body e = refl
 open-on (v ∷ l) body e = by (ltb v 255) e (open-on l (drop v body))
   where
-    by : (t : Bool) → (t || ends l) ≡ false → (ends l ≡ false → openFrom true (segments l (drop v body)) ≡ true) → openFrom (not t) (segments l (drop v body)) ≡ true
+    by : (t : Bool) → (t || ends l) ≡ false → (ends l ≡ false → openFrom true (segments l (drop v body)) ≡ true)
+        → openFrom (not t) (segments l (drop v body)) ≡ true
     by true e again = absurd (true≢false e)
     by false e again = again e
 
@@ -180,7 +186,8 @@ module _ (p : Page) where
       same false s = refl
 
   -- after a packet ended, or none
-  held-on : (h : Bytes) (t : Bool) → ends l ≡ t → join (held (length h) h) (whole p) (rest p) .left ≡ carriedOf (openFrom true (segmentsOf p)) (leftFrom h (segmentsOf p))
+  held-on : (h : Bytes) (t : Bool) → ends l ≡ t
+      → join (held (length h) h) (whole p) (rest p) .left ≡ carriedOf (openFrom true (segmentsOf p)) (leftFrom h (segmentsOf p))
   unfolding segmentsOf whole rest
   held-on h true e =
       held-left (length h) h (whole p) (rest p) (whole-ends 0 l body ∙ e) ∙ ap begun open-rest ∙ begun-carried (openFrom false (segments l body)) tail
@@ -198,15 +205,19 @@ module _ (p : Page) where
       empty : eqb (unfinishedFrom 0 l) 0 ≡ true → tail ≡ []
       empty z =
           no-bytes tail
-          (let a : length tail ≤ unfinishedFrom (0 + 0) l = rest-size 0 0 l body in let b : unfinishedFrom 0 l ≡ 0 = eqb-true (unfinishedFrom 0 l) 0 z in omega arith)
+          (let a : length tail ≤ unfinishedFrom (0 + 0) l = rest-size 0 0 l body in let b : unfinishedFrom 0 l
+          ≡ 0 = eqb-true (unfinishedFrom 0 l) 0 z in omega arith)
 
 pub joins : (o : Bool) (h : Bytes) (p : Page) → Begun o h → Joins o h p
 unfolding segmentsOf whole
 joins true h p k = record {
-  packets = held-joins (length h) h (whole p) (rest p) ∙ sym (ap (λ (s : Bytes). packetsFrom s (segments (p .lacing) (p .body))) (sym (append-nil h)) ∙ packets-cut h 0 (p .lacing) (p .body));
+  packets = held-joins (length h) h (whole p) (rest p)
+      ∙ sym (ap (λ (s : Bytes). packetsFrom s (segments (p .lacing) (p .body))) (sym (append-nil h)) ∙ packets-cut h 0 (p .lacing) (p .body));
   left = held-on p h (ends (p .lacing)) refl;
 }
 joins false h p k = record {
-  packets = nothing-joins (whole p) (rest p) .0 ∙ sym (ap (λ (s : Bytes). packetsFrom s (segments (p .lacing) (p .body))) (k refl) ∙ packets-cut [] 0 (p .lacing) (p .body) ∙ add-none (whole p));
+  packets = nothing-joins (whole p) (rest p) .0
+      ∙ sym (ap (λ (s : Bytes). packetsFrom s (segments (p .lacing) (p .body))) (k refl) ∙ packets-cut [] 0 (p .lacing) (p .body)
+      ∙ add-none (whole p));
   left = nothing-left p ∙ ap (λ (s : Bytes). carriedOf (openFrom false (segmentsOf p)) (leftFrom s (segmentsOf p))) (sym (k refl));
 }

@@ -75,7 +75,8 @@ module _ (R : Readings) (n : ℕ) (b c : Bytes) (k : BytesFurther R n b c) where
   further-in s Comment f small = further-on s small
   further-in s Audio f small = further-on s small
   further-in s Opened f small =
-      mathlib.Core.Path.subst (Further R n b c (expectingIn Opened s (pageOf b))) (sym (opened-further s)) (further-on (expectingIn Opened s (pageOf b)) (k .fits))
+      mathlib.Core.Path.subst (Further R n b c (expectingIn Opened s (pageOf b))) (sym (opened-further s))
+      (further-on (expectingIn Opened s (pageOf b)) (k .fits))
   further-in s Ended f small = further-on s small
 
   further-step : (s : State) → isFirst (s .phase) ≡ false → s .next < 2 ^ 32

@@ -34,7 +34,8 @@ use Rattle.stream.proofs.Carry.{length-carry, holds, isDone, not-long, 
 pub enough : (m : Lent) → isShort m ≡ false → packetMax ≤ length (m .carry)
 unfolding isShort
 enough m e = ltb-false (length (m .carry)) packetMax
-    (or-left (ltb (length (m .carry)) packetMax) (ltb (length (m .ends)) listMax || (ltb (length (m .sizes)) listMax || ltb (length (m .kept)) listMax)) e)
+    (or-left (ltb (length (m .carry)) packetMax)
+    (ltb (length (m .ends)) listMax || (ltb (length (m .sizes)) listMax || ltb (length (m .kept)) listMax)) e)
 
 -- the state that expects the page, and its packets
 abbrev pub expected : Reader → Bytes → Bytes → State
@@ -47,13 +48,15 @@ pub feeds : (R : Readings) (r : Reader) (m : Lent) (b : Bytes) → isShort m ≡
     → feed R r m b ≡ fedBy (verdict R (view (r .core) (m .carry)) b) R r m (expected r (m .carry) b) (pageOf b) (saw r (m .carry) b)
 unfolding feed verdict firstOf
 feeds R r m b e =
-    ap (λ (t : Bool). fedBy (pick t (some ShortRoom) (firstOf (checksOn R (expected r (m .carry) b) b (saw r (m .carry) b)))) R r m (expected r (m .carry) b) (pageOf b) (saw r (m .carry) b)) e
+    ap (λ (t : Bool). fedBy (pick t (some ShortRoom) (firstOf (checksOn R (expected r (m .carry) b) b (saw r (m .carry) b)))) R r m
+    (expected r (m .carry) b) (pageOf b) (saw r (m .carry) b)) e
 
 pub feeds-short : (R : Readings) (r : Reader) (m : Lent) (b : Bytes) → isShort m ≡ true
     → feed R r m b ≡ record { told = refuses 1; entries = []; lent = m }
 unfolding feed firstOf carryAfter
 feeds-short R r m b e =
-    ap (λ (t : Bool). fedBy (pick t (some ShortRoom) (firstOf (checksOn R (expected r (m .carry) b) b (saw r (m .carry) b)))) R r m (expected r (m .carry) b) (pageOf b) (saw r (m .carry) b)) e
+    ap (λ (t : Bool). fedBy (pick t (some ShortRoom) (firstOf (checksOn R (expected r (m .carry) b) b (saw r (m .carry) b)))) R r m
+    (expected r (m .carry) b) (pageOf b) (saw r (m .carry) b)) e
 
 -- ---- the step
 
@@ -112,7 +115,8 @@ refused-held R r c b n room v =
 seeing : Core → Carried → State
 seeing k x = record { phase = k .phase; carried = x; position = k .position; serial = k .serial; next = k .next; streams = k .streams; preskip = k .preskip }
 
-stepped-by : (R : Readings) (r : Reader) (m : Lent) (b : Bytes) → packetMax ≤ length (m .carry) → (v : Option Refusal) → verdict R (view (r .core) (m .carry)) b ≡ v
+stepped-by : (R : Readings) (r : Reader) (m : Lent) (b : Bytes) → packetMax ≤ length (m .carry) → (v : Option Refusal)
+    → verdict R (view (r .core) (m .carry)) b ≡ v
     → Stepped R r (view (r .core) (m .carry)) b v (fedBy v R r m (expected r (m .carry) b) (pageOf b) (saw r (m .carry) b))
 unfolding after stamped stampsOn entriesOn seeing
 stepped-by R r m b room none e = record {
@@ -146,7 +150,8 @@ early-stays : (n : Refusal) (t : State) (p : Page) (c : Bytes) → numberOf n < 
 unfolding carryAfter
 early-stays n t p c h = rw (lt-leb 12 (numberOf n) h)
 
-keeps-by : (R : Readings) (r : Reader) (m : Lent) (b : Bytes) (n : ℕ) → packetMax ≤ length (m .carry) → (v : Option Refusal) → verdict R (view (r .core) (m .carry)) b ≡ v
+keeps-by : (R : Readings) (r : Reader) (m : Lent) (b : Bytes) (n : ℕ) → packetMax ≤ length (m .carry) → (v : Option Refusal)
+    → verdict R (view (r .core) (m .carry)) b ≡ v
     → fedBy v R r m (expected r (m .carry) b) (pageOf b) (saw r (m .carry) b) .told ≡ refuses n
     → Keeps r m (fedBy v R r m (expected r (m .carry) b) (pageOf b) (saw r (m .carry) b) .lent) n
 keeps-by R r m b n room none e h = absurd (gives≢refuses h)

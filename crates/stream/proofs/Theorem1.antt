@@ -50,7 +50,8 @@ module _ (R : Readings) (b : Bytes) (bs : List Bytes) where
   unfolding after nextOn expecting seen headOf
   first-after v =
       let e : Expected (expecting fresh page) page = expected R fresh b v in
-      ap₂ (λ (k : Carried) (ws : List Bytes). commenting Comment k (page .header .serial) ((page .header .sequence + 1) % 2 ^ 32) (R .headOf (firstPacket ws))) (joins false [] page (λ w. refl) .left) (joins false [] page (λ w. refl) .packets)
+      ap₂ (λ (k : Carried) (ws : List Bytes). commenting Comment k (page .header .serial) ((page .header .sequence + 1) % 2 ^ 32)
+      (R .headOf (firstPacket ws))) (joins false [] page (λ w. refl) .left) (joins false [] page (λ w. refl) .packets)
       ∙ ap (λ (q : ℕ). commenting Comment (carriedOf o h) (page .header .serial) ((q + 1) % 2 ^ 32) head) (e .sequence)
 
   first-skip : skipIn R 0 fresh b ≡ head .preskip
@@ -95,10 +96,12 @@ whole R (x ∷ xs) f =
     let then : State = commenting Comment (carriedOf o h) (p .header .serial) due head in
     let same : after R fresh b ≡ then = first-after R b bs (f .0) in
     let skip : skipIn R 0 fresh b ≡ head .preskip = first-skip R b bs in
-    let later : Lists R then (head .preskip) xs = subst (λ (j : ℕ). Lists R then j xs) skip (subst (λ (s : State). Lists R s (skipIn R 0 fresh b) xs) same (f .2)) in
+    let later : Lists R then (head .preskip) xs = subst (λ (j : ℕ). Lists R then j xs) skip
+    (subst (λ (s : State). Lists R s (skipIn R 0 fresh b) xs) same (f .2)) in
     let k : Comments R head xs o h (p .header .serial) due =
     comment-run R head xs o h (p .header .serial) due (begun-left false [] (segmentsOf p) (λ w. refl)) (omega arith) later in
-    let count : (due + length xs) % 2 ^ 32 ≡ suc (length xs) % 2 ^ 32 = next-page 0 (length xs) ∙ ap (λ (n : ℕ). n % 2 ^ 32) (zero-add (suc (length xs))) in
+    let count : (due + length xs) % 2 ^ 32 ≡ suc (length xs) % 2 ^ 32 = next-page 0 (length xs)
+    ∙ ap (λ (n : ℕ). n % 2 ^ 32) (zero-add (suc (length xs))) in
     record {
       arrives = subst (λ (s : State). Arrived R head (p .header .serial) (afterAll R s bs) (afterComment bytesIn xs)) (sym same) (k .arrives);
       state = ap (λ (s : State). afterAll R s bs) same ∙ k .state ∙ ap (end R (b ∷ bs)) count;
@@ -111,8 +114,8 @@ whole R (x ∷ xs) f =
 pub whole-stream : (R : Readings) (F : List Feeding) → HandedOn R start [] F → Whole R (stream R start F)
 whole-stream R F handed = whole R (stream R start F) (runs R F start [] handed .lists)
 
-pub stream-determined : StreamState
-stream-determined R F handed =
+pub stream-state : StreamState
+stream-state R F handed =
     let S : List Shown = stream R start F in
     let ran : Ran R fresh 0 S (finally R start F) (carryLeft R start [] F) = runs R F start [] handed in
     let w : Whole R S = whole R S (ran .lists) in

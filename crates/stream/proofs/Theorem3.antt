@@ -55,7 +55,8 @@ or-true : (a b : Bool) → b ≡ true → (a || b) ≡ true
 or-true true b e = refl
 or-true false b e = e
 
-ready-on : (R : Readings) (head : Head) (end : State) (x : Shown) (xs : List Shown) (ended o : Bool) (h : Bytes) (position : Position) (serial next : ℕ)
+ready-on : (R : Readings) (head : Head) (end : State) (x : Shown) (xs : List Shown) (ended o : Bool) (h : Bytes) (position : Position)
+    (serial next : ℕ)
     → Begun o h → NotJoined position → Follows R (audio ended (carriedOf o h) position serial next head) (x ∷ xs)
     → (stood (x ∷ xs) ≡ true → afterAll R (audio ended (carriedOf o h) position serial next head) (bytesOf (x ∷ xs)) ≡ end)
     → Ready R head end (openFrom o (segmentsOf (pageOf (x .bytes)))) xs
@@ -64,7 +65,8 @@ ready-on R head end x xs true o h position serial next k n f g = absurd (ended-n
 ready-on R head end x xs false o h position serial next k n f g =
     let p : Page = pageOf (x .bytes) in
     let same : after R (audio false (carriedOf o h) position serial next head) (x .bytes)
-    ≡ audio (last p) (carriedOf (openFrom o (segmentsOf p)) (leftFrom h (segmentsOf p))) (afterPosition (completes p) position (granuleOf p)) serial ((next + 1) % 2 ^ 32) head =
+    ≡ audio (last p) (carriedOf (openFrom o (segmentsOf p)) (leftFrom h (segmentsOf p)))
+    (afterPosition (completes p) position (granuleOf p)) serial ((next + 1) % 2 ^ 32) head =
     audio-after R head (x .bytes) o h position serial next k (f .0) in
     record {
       ended = last p;
@@ -89,7 +91,8 @@ ready-drop R head end (suc j) o (x ∷ xs) k =
 
 -- where the second reader is opened
 ready-at : (R : Readings) (F : List Feeding) (j : ℕ) → HandedOn R start [] F
-    → Ready R (headOf R (bytesOf (stream R start F))) (afterAll R fresh (bytesOf (stream R start F))) (openAfter false (bytesOf (take j (audioIn R F)))) (drop j (audioIn R F))
+    → Ready R (headOf R (bytesOf (stream R start F))) (afterAll R fresh (bytesOf (stream R start F)))
+    (openAfter false (bytesOf (take j (audioIn R F)))) (drop j (audioIn R F))
 ready-at R F j handed =
     let S : List Shown = stream R start F in
     let head : Head = headOf R (bytesOf S) in
@@ -141,15 +144,18 @@ module _ (R : Readings) (head : Head) (x : Shown) (xs : List Shown) (o : Bool) (
   pub opened-first : (d : Bytes) → toldAll R (view (openAt head .core) d) (bytesOf (x ∷ xs)) ≡ joinedFrom o false (x ∷ xs)
   unfolding verdict stamped after expecting
   opened-first d =
-      page-joined R head x xs (view (openAt head .core) d) (carriedOf o h) (pick (continued page) dropped nothing) position (page .header .serial) (page .header .sequence) refl refl refl
+      page-joined R head x xs (view (openAt head .core) d) (carriedOf o h) (pick (continued page) dropped nothing) position
+      (page .header .serial) (page .header .sequence) refl refl refl
       (near-first o h (continued page) continued-is) stands at-page (sim R head xs)
       ∙ ap (λ (t : Bool). joinedFrom t false (x ∷ xs)) (drops-first (continued page) ∙ continued-is)
 
   pub opened-end : (d : Bytes) → stood (x ∷ xs) ≡ true
-      → afterTold R (view (openAt head .core) d) (bytesOf (x ∷ xs)) ≡ afterAll R (audio false (carriedOf o h) position serial next head) (bytesOf (x ∷ xs))
+      → afterTold R (view (openAt head .core) d) (bytesOf (x ∷ xs))
+      ≡ afterAll R (audio false (carriedOf o h) position serial next head) (bytesOf (x ∷ xs))
   unfolding verdict stamped after expecting
   opened-end d t =
-      page-state R head x xs (view (openAt head .core) d) (carriedOf o h) (pick (continued page) dropped nothing) position (page .header .serial) (page .header .sequence) refl refl refl
+      page-state R head x xs (view (openAt head .core) d) (carriedOf o h) (pick (continued page) dropped nothing) position
+      (page .header .serial) (page .header .sequence) refl refl refl
       (near-first o h (continued page) continued-is) stands at-page (sim-state R head xs) t
       ∙ ap₂ (λ (a b : ℕ). afterAll R (audio false (carriedOf o h) position a b head) (bytesOf (x ∷ xs))) (says .serial) (says .sequence)
 
@@ -173,7 +179,8 @@ opened-state R head end d o [] k t = absurd (false≢true t)
 opened-state R head end d o (x ∷ xs) k t = by (k .ended) (k .follows) ∙ k .ends t
   where
     by : (e : Bool) → Follows R (audio e (carriedOf o (k .h)) (k .position) (k .serial) (k .next) head) (x ∷ xs)
-        → afterTold R (view (openAt head .core) d) (bytesOf (x ∷ xs)) ≡ afterAll R (audio e (carriedOf o (k .h)) (k .position) (k .serial) (k .next) head) (bytesOf (x ∷ xs))
+        → afterTold R (view (openAt head .core) d) (bytesOf (x ∷ xs))
+        ≡ afterAll R (audio e (carriedOf o (k .h)) (k .position) (k .serial) (k .next) head) (bytesOf (x ∷ xs))
     by true f = absurd (ended-none R head (carriedOf o (k .h)) (k .position) (k .serial) (k .next) (x .bytes) (f .0))
     by false f = opened-end R head x xs o (k .h) (k .position) (k .serial) (k .next) (k .stands) f d t
 
@@ -181,12 +188,15 @@ pub continued-says : ContinuedSays
 continued-says R F j x later handed e =
     let o : Bool = openAfter false (bytesOf (take j (audioIn R F))) in
     let k : Ready R (headOf R (bytesOf (stream R start F))) (afterAll R fresh (bytesOf (stream R start F))) o (x ∷ later) =
-    subst (λ (xs : List Shown). Ready R (headOf R (bytesOf (stream R start F))) (afterAll R fresh (bytesOf (stream R start F))) o xs) e (ready-at R F j handed) in
+    subst (λ (xs : List Shown). Ready R (headOf R (bytesOf (stream R start F))) (afterAll R fresh (bytesOf (stream R start F))) o xs) e
+    (ready-at R F j handed) in
     by o k (k .ended) (k .follows)
   where
     by : (o : Bool) (k : Ready R (headOf R (bytesOf (stream R start F))) (afterAll R fresh (bytesOf (stream R start F))) o (x ∷ later)) (t : Bool)
-        → Follows R (audio t (carriedOf o (k .h)) (k .position) (k .serial) (k .next) (headOf R (bytesOf (stream R start F)))) (x ∷ later) → continued (pageOf (x .bytes)) ≡ o
-    by o k true f = absurd (ended-none R (headOf R (bytesOf (stream R start F))) (carriedOf o (k .h)) (k .position) (k .serial) (k .next) (x .bytes) (f .0))
+        → Follows R (audio t (carriedOf o (k .h)) (k .position) (k .serial) (k .next) (headOf R (bytesOf (stream R start F)))) (x ∷ later)
+        → continued (pageOf (x .bytes)) ≡ o
+    by o k true f = absurd (ended-none R (headOf R (bytesOf (stream R start F))) (carriedOf o (k .h)) (k .position) (k .serial) (k .next)
+        (x .bytes) (f .0))
     by o k false f = continued-is R (headOf R (bytesOf (stream R start F))) x later o (k .h) (k .position) (k .serial) (k .next) (k .stands) f
 
 pub demand-3 : Demand3
@@ -194,12 +204,14 @@ demand-3 R F j M first handed room same others =
     let S : List Shown = stream R start F in
     second R M (openedIn R F) [] handed room others .told
     ∙ ap (toldAll R (view (openedIn R F .core) [])) same
-    ∙ opened-told R (headOf R (bytesOf S)) (afterAll R fresh (bytesOf S)) [] (openAfter false (bytesOf (take j (audioIn R F)))) (drop j (audioIn R F)) (ready-at R F j first)
+    ∙ opened-told R (headOf R (bytesOf S)) (afterAll R fresh (bytesOf S)) [] (openAfter false (bytesOf (take j (audioIn R F))))
+    (drop j (audioIn R F)) (ready-at R F j first)
 
 pub demand-3-state : Demand3State
 demand-3-state R F j M first handed room same others t =
     let S : List Shown = stream R start F in
     second R M (openedIn R F) [] handed room others .state
     ∙ ap (afterTold R (view (openedIn R F .core) [])) same
-    ∙ opened-state R (headOf R (bytesOf S)) (afterAll R fresh (bytesOf S)) [] (openAfter false (bytesOf (take j (audioIn R F)))) (drop j (audioIn R F)) (ready-at R F j first) t
+    ∙ opened-state R (headOf R (bytesOf S)) (afterAll R fresh (bytesOf S)) [] (openAfter false (bytesOf (take j (audioIn R F))))
+    (drop j (audioIn R F)) (ready-at R F j first) t
     ∙ sym (runs R F start [] first .state)

@@ -61,16 +61,21 @@ module _ (R : Readings) (head : Head) (f : Listing → ℕ) (over : ℕ → Posi
       by (completes (pageOf b)) refl (λ (q : Position) (k : ℕ). sum-audio bs (leftFrom h (segmentsOf (pageOf b))) q k)
     where
       by : (t : Bool) → completes (pageOf b) ≡ t
-          → ((q : Position) (k : ℕ) → sum f (audioListings R head (leftFrom h (segmentsOf (pageOf b))) q k bs) ≡ over k q (marksFrom R (head .streams) (leftFrom h (segmentsOf (pageOf b))) bs))
+          → ((q : Position) (k : ℕ) → sum f (audioListings R head (leftFrom h (segmentsOf (pageOf b))) q k bs)
+          ≡ over k q (marksFrom R (head .streams) (leftFrom h (segmentsOf (pageOf b))) bs))
           → f (listingFrom (head .preskip) position n t (markFrom R (head .streams) h (pageOf b)))
-          + sum f (audioListings R head (leftFrom h (segmentsOf (pageOf b))) (afterPosition t position (granuleOf (pageOf b))) (n + total (lengthsFrom R (head .streams) h (pageOf b))) bs)
-          ≡ over n position (pick t (markFrom R (head .streams) h (pageOf b) ∷ marksFrom R (head .streams) (leftFrom h (segmentsOf (pageOf b))) bs) (marksFrom R (head .streams) (leftFrom h (segmentsOf (pageOf b))) bs))
+          + sum f (audioListings R head (leftFrom h (segmentsOf (pageOf b))) (afterPosition t position (granuleOf (pageOf b)))
+          (n + total (lengthsFrom R (head .streams) h (pageOf b))) bs)
+          ≡ over n position (pick t (markFrom R (head .streams) h (pageOf b) ∷ marksFrom R (head .streams)
+          (leftFrom h (segmentsOf (pageOf b))) bs) (marksFrom R (head .streams) (leftFrom h (segmentsOf (pageOf b))) bs))
       by true e again =
-          ap (λ (z : ℕ). f (listingFrom (head .preskip) position n true (markFrom R (head .streams) h (pageOf b))) + z) (again (At (granuleOf (pageOf b))) (n + total (lengthsFrom R (head .streams) h (pageOf b))))
+          ap (λ (z : ℕ). f (listingFrom (head .preskip) position n true (markFrom R (head .streams) h (pageOf b))) + z)
+          (again (At (granuleOf (pageOf b))) (n + total (lengthsFrom R (head .streams) h (pageOf b))))
           ∙ sym (done n position (markFrom R (head .streams) h (pageOf b)) (marksFrom R (head .streams) (leftFrom h (segmentsOf (pageOf b))) bs))
       by false e again =
           let z : total (lengthsFrom R (head .streams) h (pageOf b)) ≡ 0 = no-samples R (head .streams) h (pageOf b) e in
-          ap₂ (λ (a k : ℕ). a + sum f (audioListings R head (leftFrom h (segmentsOf (pageOf b))) position k bs)) (going n position (markFrom R (head .streams) h (pageOf b)) z) (ap (λ (k : ℕ). n + k) z ∙ add-zero n)
+          ap₂ (λ (a k : ℕ). a + sum f (audioListings R head (leftFrom h (segmentsOf (pageOf b))) position k bs))
+          (going n position (markFrom R (head .streams) h (pageOf b)) z) (ap (λ (k : ℕ). n + k) z ∙ add-zero n)
           ∙ zero-add (sum f (audioListings R head (leftFrom h (segmentsOf (pageOf b))) position n bs)) ∙ again position n
 
   -- the header pages add nothing
@@ -84,7 +89,8 @@ module _ (R : Readings) (head : Head) (f : Listing → ℕ) (over : ℕ → Posi
     where
       by : (t : Bool) → sum f (audioListings R head [] Unset 0 bs) ≡ over 0 Unset (marksFrom R (head .streams) [] bs)
           → sum f (commentListings R head bs) ≡ over 0 Unset (marksFrom R (head .streams) [] (afterComment id-bytes bs))
-          → sum f (pick t (audioListings R head [] Unset 0 bs) (commentListings R head bs)) ≡ over 0 Unset (marksFrom R (head .streams) [] (pick t bs (afterComment id-bytes bs)))
+          → sum f (pick t (audioListings R head [] Unset 0 bs) (commentListings R head bs))
+          ≡ over 0 Unset (marksFrom R (head .streams) [] (pick t bs (afterComment id-bytes bs)))
       by true a c = a
       by false a c = c
 
@@ -108,7 +114,8 @@ kept-further k n m at d j =
     let a : at + suc (d + j) ≡ at + d + suc j = omega arith in
     ap₂ (λ (x y : ℕ). not (m .last && ltb (m .granule) x) && not (ltb y k)) a (sym (add-assoc n d j))
 
-entries-kept : (k n : ℕ) (m : Mark) (at : ℕ) (ds : List ℕ) → total (map (λ (e : Entry). e .kept) (entriesFrom k n m at ds)) ≡ tally (sampleKept k n m at) (total ds)
+entries-kept : (k n : ℕ) (m : Mark) (at : ℕ) (ds : List ℕ)
+    → total (map (λ (e : Entry). e .kept) (entriesFrom k n m at ds)) ≡ tally (sampleKept k n m at) (total ds)
 unfolding entriesFrom total tally
 entries-kept k n m at [] = refl
 entries-kept k n m at (d ∷ ds) =
@@ -134,7 +141,8 @@ module _ (R : Readings) (head : Head) (b : Bytes) (o : Bool) (h : Bytes) (positi
       → tooSmall position (last (pageOf b)) (granuleOf (pageOf b)) (total (lengthsFrom R (head .streams) h (pageOf b))) ≡ false
   unfolding verdict expecting
   in-time v e =
-      ap (λ (ds : List ℕ). tooSmall position (last (pageOf b)) (granuleOf (pageOf b)) (total ds)) (sym (here-lengths R head b o h position serial next k))
+      ap (λ (ds : List ℕ). tooSmall position (last (pageOf b)) (granuleOf (pageOf b)) (total ds))
+      (sym (here-lengths R head b o h position serial next k))
       ∙ timed R now b (seen now (pageOf b)) (here-completes R head b o h position serial next k ∙ e) v .reaches
 
 marks-legal : (R : Readings) (head : Head) (xs : List Shown) (ended o : Bool) (h : Bytes) (position : Position) (serial next skip : ℕ) → Begun o h
@@ -144,31 +152,37 @@ marks-legal R head [] ended o h position serial next skip k f = tt
 marks-legal R head (x ∷ xs) true o h position serial next skip k f = absurd (ended-none R head (carriedOf o h) position serial next (x .bytes) (f .0))
 marks-legal R head (x ∷ xs) false o h position serial next skip k f =
     by (completes (pageOf (x .bytes))) refl
-    (λ (end : Bool) (q : Position). marks-legal R head xs end (openFrom o (segmentsOf (pageOf (x .bytes)))) (leftFrom h (segmentsOf (pageOf (x .bytes)))) q serial ((next + 1) % 2 ^ 32)
+    (λ (end : Bool) (q : Position). marks-legal R head xs end (openFrom o (segmentsOf (pageOf (x .bytes))))
+    (leftFrom h (segmentsOf (pageOf (x .bytes)))) q serial ((next + 1) % 2 ^ 32)
     (skipIn R skip (audio false (carriedOf o h) position serial next head) (x .bytes)) (begun-left o h (segmentsOf (pageOf (x .bytes))) k))
   where
     -- the state after the page
     then : Bool → Position → State
-    then end q = audio end (carriedOf (openFrom o (segmentsOf (pageOf (x .bytes)))) (leftFrom h (segmentsOf (pageOf (x .bytes))))) q serial ((next + 1) % 2 ^ 32) head
+    then end q = audio end (carriedOf (openFrom o (segmentsOf (pageOf (x .bytes)))) (leftFrom h (segmentsOf (pageOf (x .bytes))))) q serial
+        ((next + 1) % 2 ^ 32) head
 
     later : List Mark
     later = marksFrom R (head .streams) (leftFrom h (segmentsOf (pageOf (x .bytes)))) (bytesOf xs)
 
     lists : (t : Bool) → completes (pageOf (x .bytes)) ≡ t
-        → Lists R (then (last (pageOf (x .bytes))) (afterPosition t position (granuleOf (pageOf (x .bytes))))) (skipIn R skip (audio false (carriedOf o h) position serial next head) (x .bytes)) xs
+        → Lists R (then (last (pageOf (x .bytes))) (afterPosition t position (granuleOf (pageOf (x .bytes)))))
+        (skipIn R skip (audio false (carriedOf o h) position serial next head) (x .bytes)) xs
     lists t e =
         subst (λ (s : State). Lists R s (skipIn R skip (audio false (carriedOf o h) position serial next head) (x .bytes)) xs)
         (audio-after R head (x .bytes) o h position serial next k (f .0)
         ∙ ap (λ (w : Bool). then (last (pageOf (x .bytes))) (afterPosition w position (granuleOf (pageOf (x .bytes))))) e) (f .2)
 
     by : (t : Bool) → completes (pageOf (x .bytes)) ≡ t
-        → ((end : Bool) (q : Position) → Lists R (then end q) (skipIn R skip (audio false (carriedOf o h) position serial next head) (x .bytes)) xs → Legal q later)
+        → ((end : Bool) (q : Position)
+        → Lists R (then end q) (skipIn R skip (audio false (carriedOf o h) position serial next head) (x .bytes)) xs → Legal q later)
         → Legal position (pick t (markFrom R (head .streams) h (pageOf (x .bytes)) ∷ later) later)
     by true e again = (
       in-time R head (x .bytes) o h position serial next k (f .0) e,
-      λ l. ended-marks R head (leftFrom h (segmentsOf (pageOf (x .bytes)))) (openFrom o (segmentsOf (pageOf (x .bytes)))) (At (granuleOf (pageOf (x .bytes)))) serial ((next + 1) % 2 ^ 32)
+      λ l. ended-marks R head (leftFrom h (segmentsOf (pageOf (x .bytes)))) (openFrom o (segmentsOf (pageOf (x .bytes))))
+          (At (granuleOf (pageOf (x .bytes)))) serial ((next + 1) % 2 ^ 32)
           (skipIn R skip (audio false (carriedOf o h) position serial next head) (x .bytes)) (leftFrom h (segmentsOf (pageOf (x .bytes)))) xs
-          (subst (λ (end : Bool). Lists R (then end (At (granuleOf (pageOf (x .bytes))))) (skipIn R skip (audio false (carriedOf o h) position serial next head) (x .bytes)) xs) l (lists true e)),
+          (subst (λ (end : Bool). Lists R (then end (At (granuleOf (pageOf (x .bytes)))))
+          (skipIn R skip (audio false (carriedOf o h) position serial next head) (x .bytes)) xs) l (lists true e)),
       again (last (pageOf (x .bytes))) (At (granuleOf (pageOf (x .bytes)))) (lists true e),
     )
     by false e again = again (last (pageOf (x .bytes))) position (lists false e)
@@ -217,18 +231,24 @@ stream-counts R F handed =
     record {
       listed = sum-told listedKept S ∙ ap (sum listedKept) (w .listings)
           ∙ sum-stream R bs listedKept (countFrom (sampleKept k)) (λ n q. refl)
-          (λ n q m l. ap (λ (a : ℕ). a + countFrom (sampleKept k) (n + decoded m) (At (m .granule)) l) (sym (entries-kept k n m (at q m) (m .lengths))))
+          (λ n q m l. ap (λ (a : ℕ). a + countFrom (sampleKept k) (n + decoded m) (At (m .granule)) l)
+          (sym (entries-kept k n m (at q m) (m .lengths))))
           (λ n q m e. entries-kept k n m (at q m) (m .lengths) ∙ no-tally (sampleKept k n m (at q m)) (decoded m) e) refl;
       kept = sum-told (λ (l : Listing). l .counts .kept) S ∙ ap (sum (λ (l : Listing). l .counts .kept)) (w .listings)
-          ∙ sum-stream R bs (λ (l : Listing). l .counts .kept) (countFrom (sampleKept k)) (λ n q. refl) (λ n q m l. refl) (λ n q m e. no-tally (sampleKept k n m (at q m)) (decoded m) e) refl;
+          ∙ sum-stream R bs (λ (l : Listing). l .counts .kept) (countFrom (sampleKept k)) (λ n q. refl) (λ n q m l. refl)
+          (λ n q m e. no-tally (sampleKept k n m (at q m)) (decoded m) e) refl;
       skipped = sum-told (λ (l : Listing). l .counts .skipped) S ∙ ap (sum (λ (l : Listing). l .counts .skipped)) (w .listings)
-          ∙ sum-stream R bs (λ (l : Listing). l .counts .skipped) (countFrom (sampleSkipped k)) (λ n q. refl) (λ n q m l. refl) (λ n q m e. no-tally (sampleSkipped k n m (at q m)) (decoded m) e) refl;
+          ∙ sum-stream R bs (λ (l : Listing). l .counts .skipped) (countFrom (sampleSkipped k)) (λ n q. refl) (λ n q m l. refl)
+          (λ n q m e. no-tally (sampleSkipped k n m (at q m)) (decoded m) e) refl;
       trimmed = sum-told (λ (l : Listing). l .counts .trimmed) S ∙ ap (sum (λ (l : Listing). l .counts .trimmed)) (w .listings)
-          ∙ sum-stream R bs (λ (l : Listing). l .counts .trimmed) (countFrom sampleTrimmed) (λ n q. refl) (λ n q m l. refl) (λ n q m e. no-tally (sampleTrimmed n m (at q m)) (decoded m) e) refl;
+          ∙ sum-stream R bs (λ (l : Listing). l .counts .trimmed) (countFrom sampleTrimmed) (λ n q. refl) (λ n q m l. refl)
+          (λ n q m e. no-tally (sampleTrimmed n m (at q m)) (decoded m) e) refl;
       hole = sum-told (λ (l : Listing). l .counts .hole) S ∙ ap (sum (λ (l : Listing). l .counts .hole)) (w .listings)
-          ∙ sum-stream R bs (λ (l : Listing). l .counts .hole) (λ (n : ℕ) (q : Position) (l : List Mark). holesFrom q l) (λ n q. refl) (λ n q m l. refl) (λ n q m e. refl) refl;
+          ∙ sum-stream R bs (λ (l : Listing). l .counts .hole) (λ (n : ℕ) (q : Position) (l : List Mark). holesFrom q l) (λ n q. refl)
+          (λ n q m l. refl) (λ n q m e. refl) refl;
       samples = sum-told (λ (l : Listing). l .counts .samples) S ∙ ap (sum (λ (l : Listing). l .counts .samples)) (w .listings)
-          ∙ sum-stream R bs (λ (l : Listing). l .counts .samples) (λ (n : ℕ) (q : Position) (l : List Mark). decodedIn l) (λ n q. refl) (λ n q m l. refl) (λ n q m e. e) refl;
+          ∙ sum-stream R bs (λ (l : Listing). l .counts .samples) (λ (n : ℕ) (q : Position) (l : List Mark). decodedIn l) (λ n q. refl)
+          (λ n q m l. refl) (λ n q m e. e) refl;
       shares = shares k ms;
       spans = spans ms legal;
       closed = λ some. closed-form k ms legal;

@@ -209,7 +209,7 @@ pub record Fed : Type 0 where
   pub entries : List Entry
   pub lent : Lent
 
--- s is the state before the page, t the one that expects it, x the page's packets
+-- by the refusal or none; t is the state that expects the page, x the page's packets
 abbrev pub fedBy : Option Refusal → Readings → Reader → Lent → State → Page → Seen → Fed
 fedBy none R r m t p x = record {
   told = gives (record {

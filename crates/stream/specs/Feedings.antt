@@ -53,8 +53,8 @@ unfoldable pub carryLeft : Readings → Reader → Bytes → List Feeding → By
 carryLeft R r old [] = old
 carryLeft R r old (f ∷ fs) = carryLeft R (readerAfter R r f) (leftIn R r f old) fs
 
--- Each carry buffer agrees up to the held count with what the last left; past it it is free, and so is its length. Nothing is
--- asked of a feeding that lacks the room, which is refused before its buffer is looked at.
+-- Each carry buffer agrees up to the held count with what the last left; past it it is free, and so is its length. Nothing
+-- is asked of a feeding that lacks the room, which is refused before its buffer is looked at.
 unfoldable pub HandedOn : Readings → Reader → Bytes → List Feeding → Type 0
 HandedOn R r old [] = Unit {0}
 HandedOn R r old (f ∷ fs) =

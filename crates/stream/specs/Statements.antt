@@ -6,7 +6,7 @@ use mathlib.Core.List.{List, [], _∷_, map}
 use lib.ListN.{length, take, drop}
 use Rattle.octets.specs.Octets.{Bytes, Octets, total}
 use Rattle.refusal.specs.declared.Refusal.the-variants.{BadHead, BadMapping, BadTags}
-use Rattle.refusal.specs.Checks.{_when_, firstOf}
+use Rattle.refusal.specs.Checks.{Check, _when_, firstOf}
 use Rattle.refusal.specs.Told.{gives, refuses, decided}
 use Rattle.ogg_page.specs.Reading.{readPage}
 use Rattle.opus_head.specs.Reading.{readHead}
@@ -36,12 +36,14 @@ pub record Keeps (r : Reader) (m e : Lent) (n : ℕ) : Type 0 where
 
 -- the reader stays by what is told, a number alone
 abbrev pub RefusalKeeps : Type 0
-RefusalKeeps = (R : Readings) (r : Reader) (m : Lent) (b : Bytes) (n : ℕ) → feed R r m b .told ≡ refuses n → Keeps r m (feed R r m b .lent) n
+RefusalKeeps =
+    (R : Readings) (r : Reader) (m : Lent) (b : Bytes) (n : ℕ) → feed R r m b .told ≡ refuses n
+    → Keeps r m (feed R r m b .lent) n
 
--- ---- T1: after any list of feedings to a reader just started, the reader is the one that the accepted pages alone determine,
--- and so is what was told of each
+-- ---- T1: after any list of feedings to a reader just started, the reader is the one that the accepted pages alone
+-- determine, and so is what was told of each
 
--- S is the stream, k and skip what the reader has, `left` what the last feeding left in the carry buffer
+-- S is the stream, r the reader after it, `left` what the last feeding with room left in its carry buffer
 pub record Determined (R : Readings) (S : List Shown) (r : Reader) (left : Bytes) : Type 0 where
   pub phase : r .core .phase ≡ phaseOf (bytesOf S)
   pub unfinished : carriedIn (r .core .pending) left ≡ carriedOf (openAfter false (bytesOf S)) (leftAfter [] (bytesOf S))
@@ -58,8 +60,8 @@ StreamState =
     (R : Readings) (F : List Feeding) → HandedOn R start [] F
     → Determined R (stream R start F) (finally R start F) (carryLeft R start [] F)
 
--- ---- T2: two readers with equal cores and equal carry bytes up to the held count answer alike, and stay so; with the second
--- one's sequence number n further on, modulo 2^32, so long as its page's is
+-- ---- T2: two readers with equal cores and equal carry bytes up to the held count answer alike, and stay so; with the
+-- second one's sequence number n further on, modulo 2^32, so long as its page's is
 
 abbrev pub further : ℕ → ℕ → ℕ
 further n q = (q + n) % 2 ^ 32
@@ -99,7 +101,8 @@ viewOf r carry = view (r .core) carry
 
 pub record Alike (R : Readings) (n : ℕ) (r s : Reader) (f g : Feeding) : Type 0 where
   pub told : tell (feedIn R s g) ≡ tell (feedIn R r f)
-  pub stays : viewOf (readerAfter R s g) (feedIn R s g .lent .carry) ≡ stateFurther n (viewOf (readerAfter R r f) (feedIn R r f .lent .carry))
+  pub stays : viewOf (readerAfter R s g) (feedIn R s g .lent .carry)
+      ≡ stateFurther n (viewOf (readerAfter R r f) (feedIn R r f .lent .carry))
 
 -- the first page of all has the sequence number 0, so it takes part unshifted only
 abbrev pub Congruence : Type 0
@@ -118,8 +121,9 @@ CongruenceSame =
     (R : Readings) (r s : Reader) (m e : Lent) (b : Bytes) → isShort m ≡ false → isShort e ≡ false
     → viewOf s (e .carry) ≡ viewOf r (m .carry) → AlikeSame R r s m e b
 
--- ---- T3, demand 3: F is any list of feedings to a reader just started. M is any list of feedings to a reader opened with the
--- stream's header record; those marked are the stream's audio pages from the jth on, and have room; the others are refused.
+-- ---- T3, demand 3: F is any list of feedings to a reader just started. M is any list of feedings to a reader opened with
+-- the stream's header record; those marked are the stream's audio pages from the jth on, and have room; the others are
+-- refused.
 
 abbrev pub audioIn : Readings → List Feeding → List Shown
 audioIn R F = audioPages bytesIn (stream R start F)
@@ -134,15 +138,15 @@ openedIn R F = openAt (headOf R (bytesOf (stream R start F)))
 
 abbrev pub Demand3 : Type 0
 Demand3 =
-    (R : Readings) (F : List Feeding) (j : ℕ) (M : List Marked) → HandedOn R start [] F → HandedOn R (openedIn R F) [] (allOf M)
-    → RoomAtMarks M → marked M ≡ bytesOf (drop j (audioIn R F)) → OthersRefused R (openedIn R F) M
+    (R : Readings) (F : List Feeding) (j : ℕ) (M : List Marked) → HandedOn R start [] F
+    → HandedOn R (openedIn R F) [] (allOf M) → RoomAtMarks M → marked M ≡ bytesOf (drop j (audioIn R F)) → OthersRefused R (openedIn R F) M
     → toldAtMarks R (openedIn R F) M ≡ joined (beganBefore R F j) (drop j (audioIn R F))
 
 -- once it has a granule position to stand on, the second reader has the first one's core and held bytes
 abbrev pub Demand3State : Type 0
 Demand3State =
-    (R : Readings) (F : List Feeding) (j : ℕ) (M : List Marked) → HandedOn R start [] F → HandedOn R (openedIn R F) [] (allOf M)
-    → RoomAtMarks M → marked M ≡ bytesOf (drop j (audioIn R F)) → OthersRefused R (openedIn R F) M
+    (R : Readings) (F : List Feeding) (j : ℕ) (M : List Marked) → HandedOn R start [] F
+    → HandedOn R (openedIn R F) [] (allOf M) → RoomAtMarks M → marked M ≡ bytesOf (drop j (audioIn R F)) → OthersRefused R (openedIn R F) M
     → stood (drop j (audioIn R F)) ≡ true
     → viewOf (finally R (openedIn R F) (allOf M)) (carryLeft R (openedIn R F) [] (allOf M))
     ≡ viewOf (finally R start F) (carryLeft R start [] F)
@@ -150,8 +154,8 @@ Demand3State =
 -- the continued mark of an audio page says that a packet began before it
 abbrev pub ContinuedSays : Type 0
 ContinuedSays =
-    (R : Readings) (F : List Feeding) (j : ℕ) (x : Shown) (later : List Shown) → HandedOn R start [] F → drop j (audioIn R F) ≡ x ∷ later
-    → continued (pageOf (x .bytes)) ≡ beganBefore R F j
+    (R : Readings) (F : List Feeding) (j : ℕ) (x : Shown) (later : List Shown) → HandedOn R start [] F
+    → drop j (audioIn R F) ≡ x ∷ later → continued (pageOf (x .bytes)) ≡ beganBefore R F j
 
 -- ---- T4, the last part of demand 3: the counts told are those of the samples, one by one; and from the first page that
 -- completes an audio packet on, the number of samples kept has a closed form
@@ -181,12 +185,17 @@ StreamCounts =
 
 -- ---- what an accepted page leaves in the lists: the entries in the first places, and the rest as it was
 
+-- the list `end` has l in its first places and is as `old` was in the others
+pub record HasFirst (old end l : List ℕ) : Type 0 where
+  pub first : take (length l) end ≡ l
+  pub rest : drop (length l) end ≡ drop (length l) old
+
 pub record Shows (m e : Lent) (es : List Entry) (c : Counts) : Type 0 where
   pub packets : c .packets ≡ length es
   pub few : length es ≤ listMax
-  pub ends : (take (length es) (e .ends) ≡ map (λ (n : Entry). n .end) es) × (drop (length es) (e .ends) ≡ drop (length es) (m .ends))
-  pub sizes : (take (length es) (e .sizes) ≡ map (λ (n : Entry). n .size) es) × (drop (length es) (e .sizes) ≡ drop (length es) (m .sizes))
-  pub kept : (take (length es) (e .kept) ≡ map (λ (n : Entry). n .kept) es) × (drop (length es) (e .kept) ≡ drop (length es) (m .kept))
+  pub ends : HasFirst (m .ends) (e .ends) (map (λ (n : Entry). n .end) es)
+  pub sizes : HasFirst (m .sizes) (e .sizes) (map (λ (n : Entry). n .size) es)
+  pub kept : HasFirst (m .kept) (e .kept) (map (λ (n : Entry). n .kept) es)
   pub room : length (e .carry) ≡ length (m .carry)
 
 abbrev pub AcceptedShows : Type 0
@@ -196,15 +205,17 @@ AcceptedShows =
 
 -- ---- the real readings
 
+abbrev pub headChecks : Readings → Bytes → List Check
+headChecks R b = BadHead when not (R .isHead b) ∷ BadMapping when not (R .isMapped b) ∷ []
+
 -- they tell what reading a page, a header, a comment header and a packet alone tells
 pub record Agree (crc : Bytes → ℕ) : Type 0 where
   pub page : (b : Bytes) → decided (firstOf (pageChecks (readings crc) b)) (pageOf b .header) ≡ readPage crc b
-  pub head : (b : Bytes)
-      → decided (firstOf (BadHead when not (readings crc .isHead b) ∷ BadMapping when not (readings crc .isMapped b) ∷ [])) (readings crc .headOf b)
-      ≡ readHead b
+  pub head : (b : Bytes) → decided (firstOf (headChecks (readings crc) b)) (readings crc .headOf b) ≡ readHead b
   pub tags : (b : Bytes) → decided (firstOf (BadTags when not (readings crc .isTags b) ∷ [])) (tagsOf b) ≡ readTags b
   pub packet : (b : Bytes) (n : ℕ) → 1 ≤ n → n ≤ 255
-      → decided (firstOf (packetChecks (readings crc) n (b ∷ []))) (readings crc .samplesOf n b) ≡ readPacket b n
+      → decided (firstOf (packetChecks (readings crc) n (b ∷ []))) (readings crc .samplesOf n b)
+      ≡ readPacket b n
 
 abbrev pub ReadingsAgree : Type 0
 ReadingsAgree = (crc : Bytes → ℕ) → Agree crc
@@ -218,4 +229,5 @@ abbrev pub OpensStream : Type 0
 OpensStream =
     (crc : Bytes → ℕ) (F : List Feeding) → AllOctets F → HandedOn (readings crc) start [] F
     → 0 < length (stream (readings crc) start F)
-    → openPartWay (headOf (readings crc) (bytesOf (stream (readings crc) start F))) ≡ gives (openedIn (readings crc) F)
+    → openPartWay (headOf (readings crc) (bytesOf (stream (readings crc) start F)))
+    ≡ gives (openedIn (readings crc) F)
