@@ -65,6 +65,45 @@ uint32_t embulgri_head_read(const uint8_t *packet, size_t n, uint64_t fields[8],
 uint32_t embulgri_head_write(const uint64_t fields[8], const uint8_t mapping[255],
                              uint8_t *out, size_t out_n, uint64_t *written);
 
+/* Reads one comment header (RFC 7845, section 5.2). *count: the number of its comments. Bytes behind the last comment
+ * are not looked at.
+ *   14  the signature is wrong; a length, the count or a text passes the end of the packet; the vendor or a comment is
+ *       not UTF-8 (RFC 3629); a comment's name, which is what precedes its first "=", has a byte outside 0x20 to 0x7D;
+ *       or two comments are named R128_TRACK_GAIN, or two R128_ALBUM_GAIN, without regard to ASCII case
+ *   0   none of these; the count is stored */
+uint32_t embulgri_tags_read(const uint8_t *packet, size_t n, uint64_t *count);
+
+/* Finds the vendor of a comment header. part: where it starts in the packet, and its length in bytes.
+ *   14  embulgri_tags_read would refuse the packet
+ *   0   it would not; the two numbers are stored */
+uint32_t embulgri_tags_vendor(const uint8_t *packet, size_t n, uint64_t part[2]);
+
+/* Finds comment i of a comment header, the first being 0. part: where it starts in the packet, and its length in bytes.
+ * Each call checks the whole packet. A listing needs it for comment 0 only: where a comment ends, the next one's length
+ * stands in four bytes, least byte first, and its text follows.
+ *   14  embulgri_tags_read would refuse the packet
+ *   20  not 14, and i is not below the number of comments
+ *   0   neither; the two numbers are stored */
+uint32_t embulgri_tags_comment(const uint8_t *packet, size_t n, uint64_t i, uint64_t part[2]);
+
+/* Reads the gain in comment i of a comment header, the first being 0: the number behind its first "=", whatever its
+ * name. *gain: its 16 bits, two's complement, as a number from 0 to 65535.
+ *   14  embulgri_tags_read would refuse the packet
+ *   20  not 14, and i is not below the number of comments
+ *   21  neither, and the comment has no "=", or what is behind it is not an optional sign and digits, has no digit, has
+ *       more than 6 characters, or is not from -32768 to 32767
+ *   0   none of these; the gain is stored */
+uint32_t embulgri_tags_gain(const uint8_t *packet, size_t n, uint64_t i, uint64_t *gain);
+
+/* Writes one comment header, 16 + vendor_n + text_n + 4 * lengths_n bytes, at the start of out, and its length to
+ * *written. What lies past the header stays as it was. text: the comments joined. lengths: how many bytes each has.
+ *   23  the lengths do not sum to text_n, the header is longer than 61440 bytes, or embulgri_tags_read would refuse it
+ *   22  not 23, and out is shorter than the header
+ *   0   neither; the header and its length are stored */
+uint32_t embulgri_tags_write(const uint8_t *vendor, size_t vendor_n, const uint8_t *text, size_t text_n,
+                             const uint64_t *lengths, size_t lengths_n, uint8_t *out, size_t out_n,
+                             uint64_t *written);
+
 /* Adds a packet's length in samples to the old clock: to *reading, which rounds the sum once, to the nearest float and
  * at a tie to the even one, and to *count, which is exact. A clock starts at 0 and 0; any reading and any count are
  * taken, a NaN or an infinity too. A NaN that is stored may have any payload and any sign.

@@ -3,6 +3,7 @@
 
 use crate::head::{Head, PLACES};
 use crate::ogg::Page;
+use crate::tags::JoinedTags;
 
 extern "C" {
     fn embulgri_checksum(bytes: *const u8, n: usize) -> u32;
@@ -25,6 +26,21 @@ extern "C" {
     fn embulgri_head_write(
         fields: *const u64,
         mapping: *const u8,
+        out: *mut u8,
+        out_n: usize,
+        written: *mut u64,
+    ) -> u32;
+    fn embulgri_tags_read(packet: *const u8, n: usize, count: *mut u64) -> u32;
+    fn embulgri_tags_vendor(packet: *const u8, n: usize, part: *mut u64) -> u32;
+    fn embulgri_tags_comment(packet: *const u8, n: usize, i: u64, part: *mut u64) -> u32;
+    fn embulgri_tags_gain(packet: *const u8, n: usize, i: u64, gain: *mut u64) -> u32;
+    fn embulgri_tags_write(
+        vendor: *const u8,
+        vendor_n: usize,
+        text: *const u8,
+        text_n: usize,
+        lengths: *const u64,
+        lengths_n: usize,
         out: *mut u8,
         out_n: usize,
         written: *mut u64,
@@ -89,6 +105,48 @@ pub fn head_write(head: &Head, out: &mut [u8], written: &mut u64) -> u32 {
         embulgri_head_write(
             head.fields().as_ptr(),
             head.mapping.as_ptr(),
+            out.as_mut_ptr(),
+            out.len(),
+            written,
+        )
+    }
+}
+
+pub fn tags_read(packet: &[u8], count: &mut u64) -> u32 {
+    // SAFETY: the pointer and the length are those of one slice; `count` is the one place that is
+    // written.
+    unsafe { embulgri_tags_read(packet.as_ptr(), packet.len(), count) }
+}
+
+pub fn tags_vendor(packet: &[u8], part: &mut [u64; 2]) -> u32 {
+    // SAFETY: the pointer and the length are those of one slice; `part` has the two places that are
+    // written.
+    unsafe { embulgri_tags_vendor(packet.as_ptr(), packet.len(), part.as_mut_ptr()) }
+}
+
+pub fn tags_comment(packet: &[u8], number: u64, part: &mut [u64; 2]) -> u32 {
+    // SAFETY: the pointer and the length are those of one slice; `part` has the two places that are
+    // written.
+    unsafe { embulgri_tags_comment(packet.as_ptr(), packet.len(), number, part.as_mut_ptr()) }
+}
+
+pub fn tags_gain(packet: &[u8], number: u64, gain: &mut u64) -> u32 {
+    // SAFETY: the pointer and the length are those of one slice; `gain` is the one place that is
+    // written.
+    unsafe { embulgri_tags_gain(packet.as_ptr(), packet.len(), number, gain) }
+}
+
+pub fn tags_write(joined: &JoinedTags, out: &mut [u8], written: &mut u64) -> u32 {
+    // SAFETY: each pointer goes with the length of its own slice; `out` and `written` are borrowed
+    // mutably, so they overlap nothing.
+    unsafe {
+        embulgri_tags_write(
+            joined.vendor.as_ptr(),
+            joined.vendor.len(),
+            joined.text.as_ptr(),
+            joined.text.len(),
+            joined.lengths.as_ptr(),
+            joined.lengths.len(),
             out.as_mut_ptr(),
             out.len(),
             written,

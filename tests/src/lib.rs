@@ -1,6 +1,6 @@
 //! What the tests of the Embulgri library share. The library is called over its C interface and
-//! held to an independent implementation, [`ogg`], [`opus`], [`head`] and [`clock`], on inputs from
-//! a deterministic generator.
+//! held to an independent implementation, [`ogg`], [`opus`], [`head`], [`tags`] and [`clock`], on
+//! inputs from a deterministic generator.
 
 pub mod calls;
 pub mod clock;
@@ -21,5 +21,10 @@ pub mod packet_inputs;
 pub mod packet_set;
 pub mod random;
 pub mod reading;
+pub mod tags;
+pub mod tags_calls;
+pub mod tags_damages;
+pub mod tags_demands;
+pub mod tags_inputs;
 pub mod tally;
 pub mod writing;

@@ -4,6 +4,7 @@
 use crate::ffi;
 use crate::head::{self, Head};
 use crate::ogg::{self, Page};
+use crate::tags::{self, JoinedTags};
 use std::fmt::Display;
 
 /// What the length written is before a call.
@@ -48,6 +49,20 @@ impl Writable for Head {
 
     fn by_library(&self, out: &mut [u8], written: &mut u64) -> u32 {
         ffi::head_write(self, out, written)
+    }
+}
+
+impl Writable for JoinedTags {
+    fn length(&self) -> usize {
+        self.length()
+    }
+
+    fn by_rules(&self, room: usize) -> Result<Vec<u8>, u32> {
+        tags::write(self, room)
+    }
+
+    fn by_library(&self, out: &mut [u8], written: &mut u64) -> u32 {
+        ffi::tags_write(self, out, written)
     }
 }
 

@@ -12,37 +12,64 @@ use Rattle.refusal.specs.declared.Refusal.{Refusal}
 use Rattle.refusal.specs.Numbers.{numberOf}
 use Rattle.refusal.specs.declared.Refusal.the-variants.{UnfitFields}
 use Rattle.refusal.specs.Checks.{_when_, firstOf}
-use Rattle.refusal.specs.Told.{gives, refuses}
+use Rattle.refusal.specs.Told.{Told, gives, refuses, retold}
 use Rattle.ogg_crc.specs.Crc.{pageCrc}
 use Rattle.ogg_page.specs.declared.PageHeader.{PageHeader}
+use Rattle.ogg_page.specs.declared.PageRead.{PageRead}
+use Rattle.ogg_page.specs.declared.PageRead.the-variants.{Page, Refused as NoPage}
 use Rattle.ogg_page.specs.Page.{lacingOf, bodyOf}
-use Rattle.ogg_page.specs.Reading.{readPage}
-use Rattle.ogg_page.specs.Writing.{writeChecks, writeTold as pageTold, writeOut as pageOut}
-use Rattle.opus_packet.specs.Streams.{readPacket}
+use Rattle.ogg_page.specs.Reading.{readPage, toldRead}
+use Rattle.ogg_page.specs.declared.PageWritten.{PageWritten}
+use Rattle.ogg_page.specs.declared.PageWritten.the-variants.{Bytes as PageBytes, Refused as PageRefused}
+use Rattle.ogg_page.specs.Writing.{writeChecks, writeTold as pageTold, writeOut as pageOut, toldWritten as toldPage, Wrote as WrotePage}
 use Rattle.opus_head.specs.declared.Head.{Head}
 use Rattle.opus_head.specs.declared.HeadRead.{HeadRead}
 use Rattle.opus_head.specs.declared.Verdict.{Verdict}
 use Rattle.opus_head.specs.declared.Verdict.the-variants.{Right, Refused}
 use Rattle.opus_head.specs.Reading.{readHead, toldBy, HeadIs}
-use Rattle.opus_head.specs.Writing.{writeTold, writeOut}
-use Rattle.old_clock.specs.declared.Clock.{Clock}
-use Rattle.old_clock.specs.Clock.{addLength}
-use Rattle.embulgri.specs.Answers.{PageIn, PageOut, PacketIn, headNumbers, fitting, headFrom, HeadIn, headTold, headOut, HeadLaid, ClockAfter}
+use Rattle.opus_head.specs.declared.HeadWritten.{HeadWritten}
+use Rattle.opus_head.specs.declared.HeadWritten.the-variants.{Bytes as HeadBytes, Refused as HeadRefused}
+use Rattle.opus_head.specs.Writing.{toldWritten as toldHead, Wrote as WroteHead}
+use Rattle.opus_tags.specs.declared.TagsWritten.{TagsWritten}
+use Rattle.opus_tags.specs.declared.TagsWritten.the-variants.{Bytes as TagsBytes, Refused as TagsRefused}
+use Rattle.opus_tags.specs.Writing.{toldWritten as toldTags, Wrote as WroteTags}
+use Rattle.embulgri.specs.Answers.{Answered, Wrote, pageNumbers, PageIn, PageOut, headNumbers, fitting, headFrom, HeadIn, headTold, headOut, HeadLaid, TagsOut}
 
-module _ (p : Bytes) (old : List ℕ) where
-  pub page-read : (h : PageHeader) (l b : Bytes) → readPage pageCrc p ≡ gives h → l ≡ lacingOf p → b ≡ bodyOf p
+-- a call with one output, by what the code's answer tells
+module _ {A : Type 0} {told by-code : Told A} (same : by-code ≡ told) {old : A} where
+  pub answered : {a : A} → by-code ≡ gives a → Answered told 0 old a
+  answered e = rw (← same, e) (record { answer = refl; output = refl })
+
+  pub refused : {m n : ℕ} → by-code ≡ refuses m → n ≡ m → Answered told n old old
+  refused e number = rw (← same, e, number) (record { answer = refl; output = refl })
+
+-- a writer
+module _ {told by-code : Told ℕ} (same : by-code ≡ told) {laid end : Bytes} (output : end ≡ laid) {old : ℕ} where
+  pub wrote : {n : ℕ} → by-code ≡ gives n → Wrote told laid 0 end old n
+  wrote e = rw (← same, e) (record { answer = refl; output = output; written = refl })
+
+  pub unwritten : {m n : ℕ} → by-code ≡ refuses m → n ≡ m → Wrote told laid n end old old
+  unwritten e number = rw (← same, e, number) (record { answer = refl; output = output; written = refl })
+
+-- what is told of a page, as numbers
+abbrev numbersTold : Bytes → PageRead → Told (List ℕ)
+numbersTold p r = retold (pageNumbers p) (toldRead r)
+
+module _ (p : Bytes) (old : List ℕ) {r : PageRead} (same : toldRead r ≡ readPage pageCrc p) where
+  pub page-read : {h : PageHeader} {l b : Bytes} → l ≡ lacingOf p → b ≡ bodyOf p → r ≡ Page h
       → PageIn p 0 old (h .flags ∷ h .granule ∷ h .serial ∷ h .sequence ∷ length l ∷ length b ∷ [])
-  page-read h l b e el eb = rw (el, eb) (record { answer = rw e; numbers = rw e })
+  page-read el eb e = rw (el, eb) (answered (ap (retold (pageNumbers p)) same) (ap (numbersTold p) e))
 
-  pub page-refused : (n : ℕ) → readPage pageCrc p ≡ refuses n → PageIn p n old old
-  page-refused n e = record { answer = rw e; numbers = rw e }
+  pub page-refused : {why : Refusal} {n : ℕ} → r ≡ NoPage why → n ≡ numberOf why → PageIn p n old old
+  page-refused e number = refused (ap (retold (pageNumbers p)) same) (ap (numbersTold p) e) number
 
 module _ (h : PageHeader) (l b out : Bytes) (old : ℕ) where
-  pub page-written : (n : ℕ) (end : Bytes) → pageTold h l b out ≡ gives n → end ≡ pageOut h l b out → PageOut h l b 0 out end old n
-  page-written n end e o = record { answer = rw e; output = o; written = rw e }
+  module _ {r : PageWritten} {end : Bytes} (is : WrotePage h l b out r end) where
+    pub page-written : {n : ℕ} → r ≡ PageBytes n → PageOut h l b 0 out end old n
+    page-written e = wrote (is .told) (is .output) (ap toldPage e)
 
-  pub write-refused : (n : ℕ) (end : Bytes) → pageTold h l b out ≡ refuses n → end ≡ pageOut h l b out → PageOut h l b n out end old old
-  write-refused n end e o = record { answer = rw e; output = o; written = rw e }
+    pub page-unwritten : {why : Refusal} {n : ℕ} → r ≡ PageRefused why → n ≡ numberOf why → PageOut h l b n out end old old
+    page-unwritten e number = unwritten (is .told) (is .output) (ap toldPage e) number
 
   -- flags above 7 are refused whatever else is wrong, since the checks before theirs give the same number
   flags-decide : 7 < h .flags → firstOf (writeChecks h l b (length out)) ≡ some UnfitFields
@@ -56,14 +83,7 @@ module _ (h : PageHeader) (l b out : Bytes) (old : ℕ) where
 
   pub flags-refused : 7 < h .flags → PageOut h l b 23 out out old old
   unfolding pageTold pageOut
-  flags-refused f = write-refused 23 out (rw (flags-decide f)) (rw (flags-decide f))
-
-module _ (p : Bytes) (streams old : ℕ) where
-  pub packet-read : (d : ℕ) → readPacket p streams ≡ gives d → PacketIn p streams 0 old d
-  packet-read d e = record { answer = rw e; length = rw e }
-
-  pub packet-refused : (n : ℕ) → readPacket p streams ≡ refuses n → PacketIn p streams n old old
-  packet-refused n e = record { answer = rw e; length = rw e }
+  flags-refused f = unwritten refl (rw (flags-decide f)) (rw (flags-decide f)) refl
 
 -- what a reading of a header leaves, by its verdict
 module _ (p : Bytes) (numbers places : List ℕ) (r : HeadRead) (is : HeadIs p r) where
@@ -82,18 +102,26 @@ module _ (f m out : Bytes) (old : ℕ) where
   unfolding headTold headOut
   numbers-unfit e = record { answer = rw e; output = rw e; written = rw e }
 
-  module _ {h : Head} (from : h ≡ headFrom f m) (fit : fitting f ≡ true) {end : Bytes} (laid : end ≡ writeOut h out) where
-    pub head-written : {n : ℕ} → writeTold h out ≡ gives n → HeadLaid f m 0 out end old n
-    unfolding headTold headOut
-    head-written e = record { answer = rw (fit, ← from, e); output = rw (fit, ← from) laid; written = rw (fit, ← from, e) }
+  module _ {h : Head} (from : h ≡ headFrom f m) (fit : fitting f ≡ true) {r : HeadWritten} {end : Bytes} (is : WroteHead h out r end) where
+    -- what holds of the header holds of its numbers
+    told : toldHead r ≡ headTold f m out
+    unfolding headTold
+    told = rw (fit, ← from) (is .told)
 
-    pub head-unwritten : {n : ℕ} → writeTold h out ≡ refuses n → HeadLaid f m n out end old old
-    unfolding headTold headOut
-    head-unwritten e = record { answer = rw (fit, ← from, e); output = rw (fit, ← from) laid; written = rw (fit, ← from, e) }
+    output : end ≡ headOut f m out
+    unfolding headOut
+    output = rw (fit, ← from) (is .output)
 
-module _ (old : Clock) (length : ℕ) where
-  pub clock-added : (end : Clock) → addLength old length ≡ gives end → ClockAfter old length 0 end
-  clock-added end e = record { answer = rw e; clock = rw e }
+    pub head-written : {n : ℕ} → r ≡ HeadBytes n → HeadLaid f m 0 out end old n
+    head-written e = wrote told output (ap toldHead e)
 
-  pub clock-refused : (n : ℕ) → addLength old length ≡ refuses n → ClockAfter old length n old
-  clock-refused n e = record { answer = rw e; clock = rw e }
+    pub head-unwritten : {why : Refusal} {n : ℕ} → r ≡ HeadRefused why → n ≡ numberOf why → HeadLaid f m n out end old old
+    head-unwritten e number = unwritten told output (ap toldHead e) number
+
+module _ (vendor text : Bytes) (ns : List ℕ) (out : Bytes) (old : ℕ) where
+  module _ {r : TagsWritten} {end : Bytes} (is : WroteTags vendor text ns out r end) where
+    pub tags-written : {n : ℕ} → r ≡ TagsBytes n → TagsOut vendor text ns 0 out end old n
+    tags-written e = wrote (is .told) (is .output) (ap toldTags e)
+
+    pub tags-unwritten : {why : Refusal} {n : ℕ} → r ≡ TagsRefused why → n ≡ numberOf why → TagsOut vendor text ns n out end old old
+    tags-unwritten e number = unwritten (is .told) (is .output) (ap toldTags e) number

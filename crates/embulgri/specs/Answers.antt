@@ -20,6 +20,9 @@ use Rattle.opus_packet.specs.Streams.{readPacket}
 use Rattle.opus_head.specs.declared.Head.{Head}
 use Rattle.opus_head.specs.Reading.{readHead}
 use Rattle.opus_head.specs.Writing as headWriting
+use Rattle.opus_tags.specs.declared.Part.{Part}
+use Rattle.opus_tags.specs.Reading.{readTags, commentCount, findVendor, findComment, readGain}
+use Rattle.opus_tags.specs.Writing as tagsWriting
 use Rattle.old_clock.specs.declared.Clock.{Clock}
 use Rattle.old_clock.specs.Clock.{addLength}
 
@@ -28,25 +31,34 @@ abbrev pub stored : {A : Type 0} → Told A → A → A
 stored (gives a) old = a
 stored (refuses n) old = old
 
--- the six numbers of a page
+-- a call with one output: the returned number, and the output from `old` at entry to `end` at exit
+pub record Answered {A : Type 0} (told : Told A) (number : ℕ) (old end : A) : Type 0 where
+  pub answer : number ≡ numberIn told
+  pub output : end ≡ stored told old
+
+-- a writer: the returned number, the output at exit, and the count of bytes from `old` to `count`
+pub record Wrote (told : Told ℕ) (laid : Bytes) (number : ℕ) (end : Bytes) (old count : ℕ) : Type 0 where
+  pub answer : number ≡ numberIn told
+  pub output : end ≡ laid
+  pub written : count ≡ stored told old
+
+-- ---- pages
+
+-- flags, granule position, serial, sequence, number of lacing values, body length
 abbrev pub pageNumbers : Bytes → PageHeader → List ℕ
 pageNumbers p h = h .flags ∷ h .granule ∷ h .serial ∷ h .sequence ∷ length (lacingOf p) ∷ length (bodyOf p) ∷ []
 
--- reading the page p: the returned number, and the six numbers from `old` at entry to `end` at exit
-pub record PageIn (p : Bytes) (number : ℕ) (old end : List ℕ) : Type 0 where
-  pub answer : number ≡ numberIn (readPage pageCrc p)
-  pub numbers : end ≡ stored (retold (pageNumbers p) (readPage pageCrc p)) old
+abbrev pub PageIn : Bytes → ℕ → List ℕ → List ℕ → Type 0
+PageIn p number old end = Answered (retold (pageNumbers p) (readPage pageCrc p)) number old end
 
--- writing a page: the returned number, the output from `out` to `end`, and the count of bytes from `old` to `count`
-pub record PageOut (h : PageHeader) (l b : Bytes) (number : ℕ) (out end : Bytes) (old count : ℕ) : Type 0 where
-  pub answer : number ≡ numberIn (writeTold h l b out)
-  pub output : end ≡ writeOut h l b out
-  pub written : count ≡ stored (writeTold h l b out) old
+abbrev pub PageOut : PageHeader → Bytes → Bytes → ℕ → Bytes → Bytes → ℕ → ℕ → Type 0
+PageOut h l b number out end old count = Wrote (writeTold h l b out) (writeOut h l b out) number end old count
 
--- reading a packet of so many streams: the returned number, and the samples from `old` to `samples`
-pub record PacketIn (p : Bytes) (streams number old samples : ℕ) : Type 0 where
-  pub answer : number ≡ numberIn (readPacket p streams)
-  pub length : samples ≡ stored (readPacket p streams) old
+-- ---- packets
+
+-- the samples of a packet of so many streams
+abbrev pub PacketIn : Bytes → ℕ → ℕ → ℕ → ℕ → Type 0
+PacketIn p streams number old end = Answered (readPacket p streams) number old end
 
 -- ---- identification headers
 
@@ -93,15 +105,37 @@ headTold f m out = pick (fitting f) (headWriting.writeTold (headFrom f m) out) (
 unfoldable pub headOut : List ℕ → Bytes → Bytes → Bytes
 headOut f m out = pick (fitting f) (headWriting.writeOut (headFrom f m) out) out
 
--- the returned number, the output from `out` to `end`, and the count of bytes from `old` to `count`
-pub record HeadLaid (f : List ℕ) (m : Bytes) (number : ℕ) (out end : Bytes) (old count : ℕ) : Type 0 where
-  pub answer : number ≡ numberIn (headTold f m out)
-  pub output : end ≡ headOut f m out
-  pub written : count ≡ stored (headTold f m out) old
+abbrev pub HeadLaid : List ℕ → Bytes → ℕ → Bytes → Bytes → ℕ → ℕ → Type 0
+HeadLaid f m number out end old count = Wrote (headTold f m out) (headOut f m out) number end old count
+
+-- ---- comment headers
+
+-- the number of comments
+abbrev pub TagsIn : Bytes → ℕ → ℕ → ℕ → Type 0
+TagsIn b number old end = Answered (retold commentCount (readTags b)) number old end
+
+-- where a part starts in the packet, and its length
+abbrev pub partNumbers : Part → List ℕ
+partNumbers p = p .start ∷ p .size ∷ []
+
+abbrev pub PartIn : Told Part → ℕ → List ℕ → List ℕ → Type 0
+PartIn found number old end = Answered (retold partNumbers found) number old end
+
+abbrev pub VendorIn : Bytes → ℕ → List ℕ → List ℕ → Type 0
+VendorIn b number old end = PartIn (findVendor b) number old end
+
+abbrev pub CommentIn : Bytes → ℕ → ℕ → List ℕ → List ℕ → Type 0
+CommentIn b i number old end = PartIn (findComment b i) number old end
+
+-- the gain in 16 bits
+abbrev pub GainIn : Bytes → ℕ → ℕ → ℕ → ℕ → Type 0
+GainIn b i number old end = Answered (retold (ofZ w16) (readGain b i)) number old end
+
+abbrev pub TagsOut : Bytes → Bytes → List ℕ → ℕ → Bytes → Bytes → ℕ → ℕ → Type 0
+TagsOut vendor text ns number out end old count =
+    Wrote (tagsWriting.writeTold vendor text ns out) (tagsWriting.writeOut vendor text ns out) number end old count
 
 -- ---- the old clock
 
--- adding a length: the returned number, and the record from `old` to `end`
-pub record ClockAfter (old : Clock) (length number : ℕ) (end : Clock) : Type 0 where
-  pub answer : number ≡ numberIn (addLength old length)
-  pub clock : end ≡ stored (addLength old length) old
+abbrev pub ClockAfter : Clock → ℕ → ℕ → Clock → Type 0
+ClockAfter old length number end = Answered (addLength old length) number old end

@@ -2,16 +2,21 @@
 ghost use mathlib.Core.Path.{_≡_};
 ghost use mathlib.Core.Bool.{true};
 ghost use Rattle.ogg_crc.specs.Crc.{crc};
-ghost use Rattle.embulgri.specs.Answers.{PageIn, PageOut, PacketIn, HeadIn, HeadLaid, headNumbers, fitting, headFrom, ClockAfter};
+ghost use Rattle.opus_tags.specs.Reading.{toldPart};
+ghost use Rattle.embulgri.specs.Answers.{PageIn, PageOut, PacketIn, HeadIn, HeadLaid, headNumbers, fitting, headFrom, TagsIn, PartIn, VendorIn, CommentIn, GainIn, TagsOut, ClockAfter};
 use ogg_page::PageHeader;
 use ogg_page::PageRead;
 use ogg_page::PageWritten;
 use old_clock::Added;
 use old_clock::Clock;
+use opus_comment::GainRead;
 use opus_head::Head;
 use opus_head::HeadWritten;
 use opus_head::Verdict;
 use opus_packet::PacketRead;
+use opus_tags::PartRead;
+use opus_tags::TagsRead;
+use opus_tags::TagsWritten;
 use refusal::Refusal;
 
 #[no_mangle]
@@ -186,6 +191,83 @@ pub extern "C" fn embulgri_head_write(
             0
         }
         HeadWritten::Refused(why) => refusal::number(why) as u32,
+    }
+}
+
+// Into `count`: the number of comments of a comment header.
+#[no_mangle]
+pub extern "C" fn embulgri_tags_read(packet: &[u8], count: &mut u64) -> u32
+    ensures { λ r. ⌜ TagsIn (now (packet .entry)) r (now (count .entry)) (now (count .exit)) ⌝ }
+{
+    let read = opus_tags::read_tags(packet);
+    match read {
+        TagsRead::Count(n) => {
+            *count = n as u64;
+            0
+        }
+        TagsRead::Refused(why) => refusal::number(why) as u32,
+    }
+}
+
+// Into `part`: where it starts in the packet, and its length.
+fn store_part(found: PartRead, part: &mut [u64; 2]) -> u32
+    ensures { λ r. ⌜ PartIn (toldPart found) r (now (part .entry)) (now (part .exit)) ⌝ }
+{
+    match found {
+        PartRead::Found(p) => {
+            *part = [p.start as u64, p.size as u64];
+            0
+        }
+        PartRead::Refused(why) => refusal::number(why) as u32,
+    }
+}
+
+#[no_mangle]
+pub extern "C" fn embulgri_tags_vendor(packet: &[u8], part: &mut [u64; 2]) -> u32
+    ensures { λ r. ⌜ VendorIn (now (packet .entry)) r (now (part .entry)) (now (part .exit)) ⌝ }
+{
+    store_part(opus_tags::find_vendor(packet), part)
+}
+
+#[no_mangle]
+pub extern "C" fn embulgri_tags_comment(packet: &[u8], i: u64, part: &mut [u64; 2]) -> u32
+    ensures { λ r. ⌜ CommentIn (now (packet .entry)) i r (now (part .entry)) (now (part .exit)) ⌝ }
+{
+    store_part(opus_tags::find_comment(packet, i as usize), part)
+}
+
+// Into `gain`: the gain in comment i, in 16 bits.
+#[no_mangle]
+pub extern "C" fn embulgri_tags_gain(packet: &[u8], i: u64, gain: &mut u64) -> u32
+    ensures { λ r. ⌜ GainIn (now (packet .entry)) i r (now (gain .entry)) (now (gain .exit)) ⌝ }
+{
+    let read = opus_tags::gain(packet, i as usize);
+    match read {
+        GainRead::Gain(g) => {
+            *gain = octets::unsigned16(g) as u64;
+            0
+        }
+        GainRead::Refused(why) => refusal::number(why) as u32,
+    }
+}
+
+#[no_mangle]
+pub extern "C" fn embulgri_tags_write(
+    vendor: &[u8],
+    text: &[u8],
+    lengths: &[u64],
+    out: &mut [u8],
+    written: &mut u64,
+) -> u32
+    ensures { λ r. ⌜ TagsOut (now (vendor .entry)) (now (text .entry)) (now (lengths .entry)) r (now (out .entry)) (now (out .exit)) (now (written .entry)) (now (written .exit)) ⌝ }
+{
+    let wrote = opus_tags::write_tags(vendor, text, lengths, out);
+    match wrote {
+        TagsWritten::Bytes(n) => {
+            *written = n as u64;
+            0
+        }
+        TagsWritten::Refused(why) => refusal::number(why) as u32,
     }
 }
 

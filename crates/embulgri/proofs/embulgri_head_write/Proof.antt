@@ -1,10 +1,7 @@
 -- `embulgri::embulgri_head_write` meets its contract. Assumes nothing.
-use mathlib.Core.Path.{sym, ap, _∙_}
 use borrow.Author.Needs.{needs}
 use denote.Ref.{now}
 use Rattle.octets.proofs.Tests.{failed, held}
-use Rattle.refusal.specs.Told.{refuses}
-use Rattle.opus_head.specs.Writing.{toldWritten}
 use Rattle.embulgri.proofs.Answers.{numbers-unfit, head-written, head-unwritten}
 use Rattle.embulgri.proofs.embulgri_head_write.Statement.{statement}
 use Rattle.embulgri.proofs.embulgri_head_write.Tie as tie
@@ -26,8 +23,7 @@ returns-2 c =
     let first = made .before in
     let a = first .before .before .before .args in
     head-written (now (a .fields)) (now (a .mapping)) (now (a .out)) (now (a .written)) (made .head-from .ensures)
-    (held (first .before .numbers-fit .ensures) (first .if1 .left)) (call .write-head .ensures .output)
-    (sym (call .write-head .ensures .told) ∙ ap toldWritten (arm .wrote .given .1))
+    (held (first .before .numbers-fit .ensures) (first .if1 .left)) (call .write-head .ensures) (arm .wrote .given .1)
 
 returns-3 : tie.Need-returns-3
 returns-3 c =
@@ -37,8 +33,7 @@ returns-3 c =
     let first = made .before in
     let a = first .before .before .before .args in
     head-unwritten (now (a .fields)) (now (a .mapping)) (now (a .out)) (now (a .written)) (made .head-from .ensures)
-    (held (first .before .numbers-fit .ensures) (first .if1 .left)) (call .write-head .ensures .output)
-    (sym (call .write-head .ensures .told) ∙ ap toldWritten (arm .wrote2 .given .1) ∙ ap refuses (sym (c .number2 .ensures)))
+    (held (first .before .numbers-fit .ensures) (first .if1 .left)) (call .write-head .ensures) (arm .wrote2 .given .1) (c .number2 .ensures)
 
 pub embulgri-head-write-spec : {M : Type 1} → statement M
 embulgri-head-write-spec =

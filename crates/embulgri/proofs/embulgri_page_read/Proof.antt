@@ -1,9 +1,6 @@
 -- `embulgri::embulgri_page_read` meets its contract. Assumes nothing.
-use mathlib.Core.Path.{sym, ap, _∙_}
 use borrow.Author.Needs.{needs}
 use denote.Ref.{now}
-use Rattle.refusal.specs.Told.{refuses}
-use Rattle.ogg_page.specs.Reading.{toldRead}
 use Rattle.embulgri.proofs.Answers.{page-read, page-refused}
 use Rattle.embulgri.proofs.embulgri_page_read.Statement.{statement}
 use Rattle.embulgri.proofs.embulgri_page_read.Tie as tie
@@ -15,17 +12,15 @@ returns c =
     let arm = lacing .before .before in
     let call = arm .before .before in
     let a = call .before .before .args in
-    page-read (now (a .page)) (now (a .out)) (arm .read .given .0 .0) (now (lacing .lacing-of .result)) (now (body .body-of .result))
-    (sym (call .read-page .ensures) ∙ ap toldRead (arm .read .given .1))
-    (lacing .lacing-of .ensures) (body .body-of .ensures)
+    page-read (now (a .page)) (now (a .out)) (call .read-page .ensures) (lacing .lacing-of .ensures) (body .body-of .ensures)
+    (arm .read .given .1)
 
 returns-2 : tie.Need-returns-2
 returns-2 c =
     let arm = c .before .before in
     let call = arm .before .before in
     let a = call .before .before .args in
-    page-refused (now (a .page)) (now (a .out)) (c .number .result)
-    (sym (call .read-page .ensures) ∙ ap toldRead (arm .read2 .given .1) ∙ ap refuses (sym (c .number .ensures)))
+    page-refused (now (a .page)) (now (a .out)) (call .read-page .ensures) (arm .read2 .given .1) (c .number .ensures)
 
 pub embulgri-page-read-spec : {M : Type 1} → statement M
 embulgri-page-read-spec =

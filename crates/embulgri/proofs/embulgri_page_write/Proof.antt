@@ -1,10 +1,7 @@
 -- `embulgri::embulgri_page_write` meets its contract. Assumes nothing.
-use mathlib.Core.Path.{sym, ap, _∙_}
 use borrow.Author.Needs.{needs}
 use denote.Ref.{now}
-use Rattle.refusal.specs.Told.{refuses}
-use Rattle.ogg_page.specs.Writing.{toldWritten}
-use Rattle.embulgri.proofs.Answers.{page-written, write-refused, flags-refused}
+use Rattle.embulgri.proofs.Answers.{page-written, page-unwritten, flags-refused}
 use Rattle.embulgri.proofs.embulgri_page_write.Statement.{statement}
 use Rattle.embulgri.proofs.embulgri_page_write.Tie as tie
 
@@ -18,17 +15,15 @@ returns-2 c =
     let arm = c .before in
     let call = arm .before .before .before .before in
     let a = call .before .before .before .before .before .before .args in
-    page-written _ (now (a .lacing)) (now (a .body)) (now (a .out)) (now (a .written)) (arm .wrote .given .0 .0) (call .write-page .last .1 .1 .1 .0)
-    (sym (call .write-page .ensures .told) ∙ ap toldWritten (arm .wrote .given .1)) (call .write-page .ensures .output)
+    page-written _ (now (a .lacing)) (now (a .body)) (now (a .out)) (now (a .written)) (call .write-page .ensures) (arm .wrote .given .1)
 
 returns-3 : tie.Need-returns-3
 returns-3 c =
     let arm = c .before .before in
     let call = arm .before .before .before .before in
     let a = call .before .before .before .before .before .before .args in
-    write-refused _ (now (a .lacing)) (now (a .body)) (now (a .out)) (now (a .written)) (c .number2 .result) (call .write-page .last .1 .1 .1 .0)
-    (sym (call .write-page .ensures .told) ∙ ap toldWritten (arm .wrote2 .given .1) ∙ ap refuses (sym (c .number2 .ensures)))
-    (call .write-page .ensures .output)
+    page-unwritten _ (now (a .lacing)) (now (a .body)) (now (a .out)) (now (a .written)) (call .write-page .ensures)
+    (arm .wrote2 .given .1) (c .number2 .ensures)
 
 pub embulgri-page-write-spec : {M : Type 1} → statement M
 embulgri-page-write-spec =
