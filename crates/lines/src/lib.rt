@@ -6,6 +6,7 @@ ghost use Prim.Native.Nat.{_+_, _≤_, _<_, _/_, _%_};
 ghost use lib.Dec.{ltb};
 ghost use lib.ListN.{length};
 ghost use Rattle.octets.specs.Octets.{copied};
+ghost use Rattle.octets.specs.Numbers.{octets};
 ghost use Rattle.lines.specs.Decimal.{decimal};
 ghost use Rattle.lines.specs.Lines.{firstLine, entryLine, totalLine, refusedLine};
 ghost use Rattle.lines.specs.Writing.{Put, Laid};
@@ -37,17 +38,45 @@ fn is_short(len: usize, at: usize, n: usize) -> bool
     false
 }
 
+// The four digits of a number below 10,000, leading zeros too, as the bytes of one number. Two pairs of digits stand in 16
+// bits each, and both are divided by ten at once: n * 103 / 1024 is n / 10 for every n below 100.
+fn four_digits(x: u64) -> u64
+    requires { ⌜ x < 10000 ⌝ }
+    ensures { λ r. ⌜ octets 4 r ≡ lowest 4 x ⌝ }
+{
+    let pairs = x / 100 + x % 100 * 65536;
+    let scaled = pairs * 103 / 1024;
+    let tens = scaled % 16 + scaled / 65536 % 16 * 65536;
+    808464432 + tens + (pairs - 10 * tens) * 256
+}
+
+// The three digits of a number from 100 to 999 and a byte behind them, as the bytes of one number.
+fn three_digits(x: u64, b: u8) -> u64
+    requires { ⌜ (100 ≤ x) × (x < 1000) ⌝ }
+    ensures { λ r. ⌜ octets 4 r ≡ decimal x ++ (b ∷ []) ⌝ }
+{
+    let low = x % 100;
+    let tens = low / 10;
+    3158064 + x / 100 + tens * 256 + (low - 10 * tens) * 65536 + octets::wide(b) as u64 * 16777216
+}
+
+// The lowest four bytes of w; straight stores, which the compiler makes one.
+fn put_word(out: &mut [u8], at: usize, w: u64)
+    requires { ⌜ at + 4 ≤ length (now out) ⌝ }
+    ensures { λ _. ⌜ now (out .exit) ≡ copied (now (out .entry)) at (octets 4 w) ⌝ }
+{
+    out[at] = (w % 256) as u8;
+    out[at + 1] = (w / 256 % 256) as u8;
+    out[at + 2] = (w / 65536 % 256) as u8;
+    out[at + 3] = (w / 16777216 % 256) as u8;
+}
+
 // The four digits of a number below 10,000, leading zeros too.
 fn put_four(out: &mut [u8], at: usize, x: u64)
     requires { ⌜ (x < 10000) × (at + 4 ≤ length (now out)) ⌝ }
     ensures { λ _. ⌜ now (out .exit) ≡ copied (now (out .entry)) at (lowest 4 x) ⌝ }
 {
-    let high = x / 100;
-    let low = x % 100;
-    out[at] = (48 + high / 10) as u8;
-    out[at + 1] = (48 + high % 10) as u8;
-    out[at + 2] = (48 + low / 10) as u8;
-    out[at + 3] = (48 + low % 10) as u8;
+    put_word(out, at, four_digits(x));
 }
 
 // The eight digits of a number below 100,000,000, leading zeros too.
@@ -122,11 +151,17 @@ fn put_decimal(out: &mut [u8], at: usize, x: u64) -> usize
     next + 8
 }
 
-// The digits of a number, and a byte behind them.
+// The digits of a number, and a byte behind them. Most lengths of packets have three digits: they are one store.
 fn put_ended(out: &mut [u8], at: usize, x: u64, b: u8) -> usize
     requires { ⌜ at + length (decimal x) < length (now out) ⌝ }
     ensures { λ r. ⌜ Laid (now (out .entry)) at (decimal x ++ (b ∷ [])) r (now (out .exit)) ⌝ }
 {
+    if x < 1000 {
+        if x >= 100 {
+            put_word(out, at, three_digits(x, b));
+            return at + 4;
+        }
+    }
     let next = put_decimal(out, at, x);
     out[next] = b;
     next + 1

@@ -1,0 +1,19 @@
+-- `lines::four_digits` meets its contract. Assumes nothing.
+use native.Mathlib.Omega.{arith}
+use borrow.Author.Needs.{needs}
+use Rattle.lines.proofs.Words.{tens, four-right}
+use Rattle.lines.proofs.four_digits.Statement.{statement}
+use Rattle.lines.proofs.four_digits.Tie as tie
+
+sub-result : tie.Need-sub-result
+sub-result c = omega (arith, tens (c .args .x) (c .pre))
+
+returns : tie.Need-returns
+returns c = four-right (c .args .x) (c .pre)
+
+pub four-digits-spec : {M : Type 1} → statement M
+four-digits-spec =
+    tie.close
+    (tie.spec
+    (λ c. search needs) (λ c. search needs) (λ c. search needs) (λ c. search needs) (λ c. search needs) (λ c. search needs) (λ c. search needs)
+    sub-result (λ c. search needs) (λ c. search needs) returns)
