@@ -1,6 +1,5 @@
 -- `lines::four_digits` meets its contract. Assumes nothing.
 use native.Mathlib.Omega.{arith}
-use borrow.Author.Needs.{needs}
 use Rattle.lines.proofs.Words.{tens, four-right}
 use Rattle.lines.proofs.four_digits.Statement.{statement}
 use Rattle.lines.proofs.four_digits.Tie as tie
@@ -15,5 +14,5 @@ pub four-digits-spec : {M : Type 1} → statement M
 four-digits-spec =
     tie.close
     (tie.spec
-    (λ c. search needs) (λ c. search needs) (λ c. search needs) (λ c. search needs) (λ c. search needs) (λ c. search needs) (λ c. search needs)
-    sub-result (λ c. search needs) (λ c. search needs) returns)
+    (λ c. omega arith) (λ c. omega arith) (λ c. omega arith) (λ c. omega arith) (λ c. omega arith) (λ c. omega arith) (λ c. omega arith)
+    sub-result (λ c. omega arith) (λ c. omega arith) returns)

@@ -1,10 +1,12 @@
 -- `lines::put_entry` meets its contract: three numbers, each with a byte behind it. Assumes nothing.
-use mathlib.Core.Path.{sym, _∙_}
+use mathlib.Core.Path.{_≡_, sym, _∙_}
+use mathlib.Core.Bool.{false}
 use Prim.Native.Nat.{_+_, _≤_}
 use native.Mathlib.Omega.{arith}
 use borrow.Author.Needs.{needs}
 use borrow.Author.Tests.{ltb-false}
 use denote.Ref.{now}
+use lib.Dec.{ltb}
 use lib.ListN.{length}
 use Rattle.lines.specs.Lines.{entryLine}
 use Rattle.lines.proofs.Lines.{length-ended, length-entry, laid-entry}
@@ -16,8 +18,11 @@ returns : tie.Need-returns
 returns c = put-none (sym (c .before .lacks-entry .ensures) ∙ c .if1 .taken)
 
 -- the line fits
+tested : (c : tie.Else1) → let a = c .before .before .before .args in ltb (length (now (a .out))) (a .at + length (entryLine (a .end) (a .dur) (a .kept))) ≡ false
+tested c = sym (c .before .lacks-entry .ensures) ∙ c .if1 .left
+
 fits : (c : tie.Else1) → let a = c .before .before .before .args in a .at + length (entryLine (a .end) (a .dur) (a .kept)) ≤ length (now (a .out))
-fits c = ltb-false _ _ (sym (c .before .lacks-entry .ensures) ∙ c .if1 .left)
+fits c = ltb-false _ _ (tested c)
 
 put-ended-requires : tie.Need-put-ended-requires
 put-ended-requires c κs =
@@ -41,7 +46,7 @@ returns-2 c =
     let first = second .before .before .before .before in
     let test = first .before .before in
     let a = test .before .before .before .args in
-    put-all (sym (test .before .lacks-entry .ensures) ∙ test .if1 .left)
+    put-all (tested test)
     (laid-entry (a .end) (a .dur) (a .kept) (first .put-ended .ensures) (second .put-ended2 .ensures) (third .put-ended3 .ensures) (fits test))
 
 pub put-entry-spec : {M : Type 1} → statement M

@@ -1,10 +1,12 @@
 -- `lines::put_refused` meets its contract: two numbers and their names, and a line feed. Assumes nothing.
-use mathlib.Core.Path.{refl, sym, _∙_}
+use mathlib.Core.Path.{_≡_, refl, sym, _∙_}
+use mathlib.Core.Bool.{false}
 use Prim.Native.Nat.{_+_, _≤_}
 use native.Mathlib.Omega.{arith}
 use borrow.Author.Needs.{needs}
 use borrow.Author.Tests.{ltb-false}
 use denote.Ref.{now}
+use lib.Dec.{ltb}
 use lib.ListN.{length}
 use Rattle.lines.specs.Lines.{refusedBy, onPage, refusedLine}
 use Rattle.lines.proofs.Lines.{length-pair, length-refused, laid-refused}
@@ -16,8 +18,11 @@ returns : tie.Need-returns
 returns c = put-none (sym (c .before .lacks-refused .ensures) ∙ c .if1 .taken)
 
 -- the line fits
+tested : (c : tie.Else1) → let a = c .before .before .before .args in ltb (length (now (a .out))) (a .at + length (refusedLine (a .number) (a .page))) ≡ false
+tested c = sym (c .before .lacks-refused .ensures) ∙ c .if1 .left
+
 fits : (c : tie.Else1) → let a = c .before .before .before .args in a .at + length (refusedLine (a .number) (a .page)) ≤ length (now (a .out))
-fits c = ltb-false _ _ (sym (c .before .lacks-refused .ensures) ∙ c .if1 .left)
+fits c = ltb-false _ _ (tested c)
 
 put-pair-requires : tie.Need-put-pair-requires
 put-pair-requires c κs =
@@ -41,7 +46,7 @@ returns-2 c =
     let pair = c .before .before in
     let test = pair .before .before .before .before in
     let a = test .before .before .before .args in
-    put-all (sym (test .before .lacks-refused .ensures) ∙ test .if1 .left)
+    put-all (tested test)
     (laid-refused (a .number) (a .page) (pair .put-pair .ensures) (laid-as 1 refl refl (one-store _ _ _ (room c))) (fits test))
 
 pub put-refused-spec : {M : Type 1} → statement M

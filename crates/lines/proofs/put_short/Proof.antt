@@ -22,7 +22,7 @@ returns : tie.Need-returns
 returns c = laid-as 1 (one c) refl (one-store _ _ _ (omega (arith, ap length (one c))))
 
 two : (c : tie.Then2) → let x = c .before .before .before .args .x in decimal x ≡ digit (x / 10) ∷ digit (x % 10) ∷ []
-two c = decimal-two (c .before .before .before .args .x) (c .before .if1 .left) (c .if2 .taken)
+two c = decimal-two (c .before .before .before .args .x) (omega arith) (omega arith)
 
 slice-write-out-2 : tie.Need-slice-write-out-2
 slice-write-out-2 c = omega (arith, ap length (two c))
@@ -34,7 +34,7 @@ returns-2 : tie.Need-returns-2
 returns-2 c = laid-as 2 (two c) refl (two-stores _ _ _ _ (omega (arith, ap length (two c))))
 
 three : (c : tie.Then3) → let x = c .before .before .before .before .args .x in decimal x ≡ digit (x / 100) ∷ digit (x / 10 % 10) ∷ digit (x % 10) ∷ []
-three c = decimal-three (c .before .before .before .before .args .x) (c .before .if2 .left) (c .if3 .taken)
+three c = decimal-three (c .before .before .before .before .args .x) (omega arith) (omega arith)
 
 slice-write-out-4 : tie.Need-slice-write-out-4
 slice-write-out-4 c = omega (arith, ap length (three c))
@@ -63,9 +63,9 @@ pub put-short-spec : {M : Type 1} → statement M
 put-short-spec =
     tie.close
     (tie.spec
-    (λ c. search needs) (λ c. search needs) slice-write-out (λ c. search needs) (λ c. search needs) returns
-    (λ c. search needs) (λ c. search needs) slice-write-out-2 (λ c. search needs) (λ c. search needs) (λ c. search needs)
-    slice-write-out-3 (λ c. search needs) (λ c. search needs) returns-2
-    (λ c. search needs) (λ c. search needs) slice-write-out-4 (λ c. search needs) (λ c. search needs) (λ c. search needs)
-    slice-write-out-5 (λ c. search needs) (λ c. search needs) (λ c. search needs) slice-write-out-6 (λ c. search needs)
-    (λ c. search needs) returns-3 put-four-requires (λ c. search needs) (λ c. search needs) returns-4)
+    (λ c. omega arith) (λ c. omega arith) slice-write-out (λ c. omega arith) (λ c. search needs) returns
+    (λ c. omega arith) (λ c. omega arith) slice-write-out-2 (λ c. omega arith) (λ c. omega arith) (λ c. omega arith)
+    slice-write-out-3 (λ c. omega arith) (λ c. search needs) returns-2
+    (λ c. omega arith) (λ c. omega arith) slice-write-out-4 (λ c. omega arith) (λ c. omega arith) (λ c. omega arith)
+    slice-write-out-5 (λ c. omega arith) (λ c. omega arith) (λ c. omega arith) slice-write-out-6 (λ c. omega arith)
+    (λ c. search needs) returns-3 put-four-requires (λ c. omega arith) (λ c. search needs) returns-4)

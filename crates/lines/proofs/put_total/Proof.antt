@@ -1,10 +1,12 @@
 -- `lines::put_total` meets its contract: four numbers and their names, and a line feed. Assumes nothing.
-use mathlib.Core.Path.{refl, sym, _∙_}
+use mathlib.Core.Path.{_≡_, refl, sym, _∙_}
+use mathlib.Core.Bool.{false}
 use Prim.Native.Nat.{_+_, _≤_}
 use native.Mathlib.Omega.{arith}
 use borrow.Author.Needs.{needs}
 use borrow.Author.Tests.{ltb-false}
 use denote.Ref.{now}
+use lib.Dec.{ltb}
 use lib.ListN.{length, length-set}
 use Rattle.lines.specs.Lines.{totalKept, andSkipped, andTrimmed, andHole, totalLine}
 use Rattle.lines.proofs.Lines.{length-pair, length-total, laid-total}
@@ -16,8 +18,11 @@ returns : tie.Need-returns
 returns c = put-none (sym (c .before .lacks-total .ensures) ∙ c .if1 .taken)
 
 -- the line fits
+tested : (c : tie.Else1) → let a = c .before .before .before .args in ltb (length (now (a .out))) (a .at + length (totalLine (a .kept) (a .skipped) (a .trimmed) (a .hole))) ≡ false
+tested c = sym (c .before .lacks-total .ensures) ∙ c .if1 .left
+
 fits : (c : tie.Else1) → let a = c .before .before .before .args in a .at + length (totalLine (a .kept) (a .skipped) (a .trimmed) (a .hole)) ≤ length (now (a .out))
-fits c = ltb-false _ _ (sym (c .before .lacks-total .ensures) ∙ c .if1 .left)
+fits c = ltb-false _ _ (tested c)
 
 put-pair-requires : tie.Need-put-pair-requires
 put-pair-requires c κs =
@@ -61,7 +66,7 @@ returns-2 c =
     let first = later .before .before .before .before .before .before in
     let test = first .before .before .before .before in
     let a = test .before .before .before .args in
-    put-all (sym (test .before .lacks-total .ensures) ∙ test .if1 .left)
+    put-all (tested test)
     (laid-total (a .kept) (a .skipped) (a .trimmed) (a .hole) (first .put-pair .ensures) (later .put-pair2 .ensures)
     (laid-as 1 refl refl (one-store _ _ _ (room c))) (fits test))
 
