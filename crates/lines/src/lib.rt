@@ -47,7 +47,7 @@ fn four_digits(x: u64) -> u64
     let pairs = x / 100 + x % 100 * 65536;
     let scaled = pairs * 103 / 1024;
     let tens = scaled % 16 + scaled / 65536 % 16 * 65536;
-    808464432 + tens + (pairs - 10 * tens) * 256
+    0x30303030 + tens + (pairs - 10 * tens) * 256
 }
 
 // The three digits of a number from 100 to 999 and a byte behind them, as the bytes of one number.
@@ -57,7 +57,7 @@ fn three_digits(x: u64, b: u8) -> u64
 {
     let low = x % 100;
     let tens = low / 10;
-    3158064 + x / 100 + tens * 256 + (low - 10 * tens) * 65536 + octets::wide(b) as u64 * 16777216
+    0x303030 + x / 100 + tens * 256 + (low - 10 * tens) * 65536 + octets::wide(b) as u64 * 16777216
 }
 
 // The lowest four bytes of w; straight stores, which the compiler makes one.

@@ -29,5 +29,5 @@ pub put-decimal-spec : {M : Type 1} → statement M
 put-decimal-spec =
     tie.close
     (tie.spec
-    (λ c κs. search needs) (λ c. search needs) (λ c. search needs) put-upper-requires put-eight-requires add-result
-    (λ c. search needs) returns-2)
+    (λ c κs. search needs) (λ c. omega arith) (λ c. search needs) put-upper-requires put-eight-requires add-result
+    (λ c. omega arith) returns-2)

@@ -26,4 +26,4 @@ returns c =
 pub put-eight-spec : {M : Type 1} → statement M
 put-eight-spec =
     tie.close
-    (tie.spec (λ c κs. search needs) (λ c. search needs) (λ c κs. search needs) (λ c. search needs) returns)
+    (tie.spec (λ c κs. search needs) (λ c. omega arith) (λ c κs. search needs) (λ c. omega arith) returns)

@@ -27,5 +27,5 @@ pub put-ended-spec : {M : Type 1} → statement M
 put-ended-spec =
     tie.close
     (tie.spec
-    (λ c κs. search needs) put-word-requires (λ c. search needs) (λ c. search needs) returns (λ c κs. search needs) (λ c. search needs) (λ c. search needs)
+    (λ c κs. search needs) put-word-requires (λ c. omega arith) (λ c. omega arith) returns (λ c κs. search needs) (λ c. omega arith) (λ c. omega arith)
     (λ c. search needs) returns-2)

@@ -3,7 +3,6 @@ use mathlib.Core.Path.{_≡_, sym, _∙_}
 use mathlib.Core.Bool.{false}
 use Prim.Native.Nat.{_+_, _≤_}
 use native.Mathlib.Omega.{arith}
-use borrow.Author.Needs.{needs}
 use borrow.Author.Tests.{ltb-false}
 use denote.Ref.{now}
 use lib.Dec.{ltb}
@@ -53,4 +52,4 @@ pub put-entry-spec : {M : Type 1} → statement M
 put-entry-spec =
     tie.close
     (tie.spec
-    (λ c κs. search needs) returns put-ended-requires put-ended-requires-2 put-ended-requires-3 (λ c. search needs) returns-2)
+    (λ c κs. tt) returns put-ended-requires put-ended-requires-2 put-ended-requires-3 (λ c. omega arith) returns-2)

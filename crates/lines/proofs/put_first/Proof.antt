@@ -30,4 +30,4 @@ returns-2 c =
 pub put-first-spec : {M : Type 1} → statement M
 put-first-spec =
     tie.close
-    (tie.spec (λ c κs. search needs) returns (λ c. search needs) (λ c κs. search needs) add-result (λ c. search needs) returns-2)
+    (tie.spec (λ c κs. tt) returns (λ c. search needs) (λ c κs. tt) add-result (λ c. search needs) returns-2)

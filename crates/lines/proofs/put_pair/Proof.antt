@@ -1,6 +1,5 @@
 -- `lines::put_pair` meets its contract: one number and its name right behind another. Assumes nothing.
 use native.Mathlib.Omega.{arith}
-use borrow.Author.Needs.{needs}
 use denote.Ref.{now}
 use lib.ListN.{length-append}
 use Rattle.lines.specs.Decimal.{decimal}
@@ -19,4 +18,4 @@ returns c =
     (omega (arith, length-append (now (a .first)) (decimal (a .x)), length-append (now (a .second)) (decimal (a .y))))
 
 pub put-pair-spec : {M : Type 1} → statement M
-put-pair-spec = tie.close (tie.spec (λ c κs. search needs) put-named-requires-2 (λ c. search needs) returns)
+put-pair-spec = tie.close (tie.spec (λ c κs. omega arith) put-named-requires-2 (λ c. omega arith) returns)

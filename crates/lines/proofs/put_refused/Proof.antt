@@ -53,5 +53,5 @@ pub put-refused-spec : {M : Type 1} → statement M
 put-refused-spec =
     tie.close
     (tie.spec
-    (λ c κs. search needs) returns (λ c. search needs) (λ c. search needs) put-pair-requires slice-write-out add-result
+    (λ c κs. tt) returns (λ c. search needs) (λ c. search needs) put-pair-requires slice-write-out add-result
     (λ c. search needs) returns-2)

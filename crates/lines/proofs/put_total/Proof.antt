@@ -74,5 +74,5 @@ pub put-total-spec : {M : Type 1} → statement M
 put-total-spec =
     tie.close
     (tie.spec
-    (λ c κs. search needs) returns (λ c. search needs) (λ c. search needs)
+    (λ c κs. tt) returns (λ c. search needs) (λ c. search needs)
     put-pair-requires (λ c. search needs) (λ c. search needs) put-pair-requires-2 slice-write-out add-result same-length returns-2)
