@@ -6,7 +6,7 @@ use native.Mathlib.Omega.{arith}
 use lib.ListN.{length, getD, List·getD-append}
 use Rattle.octets.specs.Octets.{Bytes}
 use Rattle.lines.specs.Decimal.{digit, decimal, numberAfter, numberRead}
-use Rattle.lines.specs.Statements.{Digits, Writes, DecimalRight, DecimalOnly}
+use Rattle.lines.specs.Statements.{Digits, DecimalRight, DecimalOnly}
 use Rattle.lines.proofs.Decimal.{decimal-one, decimal-more, length-more, by-tens}
 
 -- ---- the digits of a number are its own

@@ -1,11 +1,10 @@
 -- Digits as the bytes of one number, least byte first. Assumes nothing.
-use mathlib.Core.Path.{_≡_, refl, sym, ap, _∙_}
+use mathlib.Core.Path.{_≡_, sym, ap, _∙_}
 use mathlib.Core.List.{[], _∷_, _++_}
-use Prim.Native.Nat.{ℕ, _+_, _*_, _-_, _/_, _%_, _^_, _≤_, _<_}
+use Prim.Native.Nat.{ℕ, _+_, _*_, _-_, _/_, _%_, _≤_, _<_}
 use native.Mathlib.Omega.{arith}
-use Rattle.octets.specs.Octets.{Bytes}
 use Rattle.octets.specs.Numbers.{octets}
-use Rattle.lines.specs.Decimal.{digit, decimal}
+use Rattle.lines.specs.Decimal.{decimal}
 use Rattle.lines.specs.Digits.{lowest}
 use Rattle.lines.proofs.Decimal.{decimal-three, lowest-four}
 

@@ -1,11 +1,9 @@
 -- What is proved of numbers in decimal and of the lines, beside the contracts. Assumes nothing.
-use Prim.Native.Nat.{ℕ, _≤_, _<_, _^_}
+use Prim.Native.Nat.{ℕ, _≤_, _<_}
 use mathlib.Core.Path.{_≡_}
-use mathlib.Core.List.{[], _∷_, _++_}
 use lib.ListN.{length, getD}
 use Rattle.octets.specs.Octets.{Bytes}
 use Rattle.lines.specs.Decimal.{decimal, numberRead}
-use Rattle.lines.specs.Lines.{entryLine, totalLine, refusedLine}
 
 -- each byte is a digit, "0" to "9"
 pub record Digits (s : Bytes) : Type 0 where

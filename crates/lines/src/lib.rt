@@ -125,7 +125,7 @@ fn put_middle(out: &mut [u8], at: usize, x: u64) -> usize
     next + 4
 }
 
-// The digits of a number of 17 to 20 digits without the last eight, or of any smaller number.
+// The digits of a number below 1,000,000,000,000: what stands before the last eight digits of any.
 fn put_upper(out: &mut [u8], at: usize, x: u64) -> usize
     requires { ⌜ (x < 1000000000000) × (at + length (decimal x) ≤ length (now out)) ⌝ }
     ensures { λ r. ⌜ Laid (now (out .entry)) at (decimal x) r (now (out .exit)) ⌝ }

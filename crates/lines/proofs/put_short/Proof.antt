@@ -4,7 +4,6 @@ use mathlib.Core.List.{[], _∷_}
 use Prim.Native.Nat.{_/_, _%_}
 use native.Mathlib.Omega.{arith}
 use borrow.Author.Needs.{needs}
-use denote.Ref.{now}
 use lib.ListN.{length, length-set}
 use Rattle.lines.specs.Decimal.{digit, decimal}
 use Rattle.lines.proofs.Decimal.{decimal-one, decimal-two, decimal-three, decimal-four, length-lowest}
