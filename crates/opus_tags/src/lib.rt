@@ -143,8 +143,8 @@ fn count_of(b: &[u8]) -> usize
 pub fn first_comment(b: &[u8]) -> usize
     ensures { λ r. ⌜ r ≡ firstPlace (now (b .entry)) ⌝ }
 {
-    let vendor = octets::number32(b, 8) as usize;
-    16 + vendor
+    let size = octets::number32(b, 8) as usize;
+    16 + size
 }
 
 // Up to the first comment.

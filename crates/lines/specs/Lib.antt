@@ -1,0 +1,5 @@
+pub mod Decimal
+pub mod Lines
+pub mod Digits
+pub mod Writing
+pub mod Statements
