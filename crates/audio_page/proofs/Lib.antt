@@ -6,3 +6,6 @@ pub mod Timing
 pub mod Splitting
 pub mod Seeing
 pub mod Verdicts
+pub mod Feeding
+pub mod Pages
+pub mod Checking

@@ -231,7 +231,7 @@ nextCore k h pending position = record {
 abbrev pub lateChecks : Readings → State → Page → Seen → List Check
 lateChecks R t p x = packetChecks R (t .streams) (audioPackets t x) ++ timeChecks R t p x
 
-abbrev lateOn : Readings → Reader → Lent → State → Page → Seen → Fed
+abbrev pub lateOn : Readings → Reader → Lent → State → Page → Seen → Fed
 lateOn R r m t p x = fedBy (firstOf (lateChecks R t p x)) R r m t p x
 
 unfoldable pub lateFed : Readings → Reader → Lent → Page → Fed

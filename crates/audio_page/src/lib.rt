@@ -1,8 +1,8 @@
 // One audio page of an Ogg Opus stream, fed to a reader that expects it: refusals 9, 11 and 15 to 19, the lists, the carry
 // buffer and the reader that follows.
 ghost use mathlib.Core.Path.{_≡_};
-ghost use mathlib.Core.Bool.{Bool, true, false, not, _||_};
-ghost use mathlib.Core.List.{List, [], _∷_, _++_};
+ghost use mathlib.Core.Bool.{not, _&&_, _||_};
+ghost use mathlib.Core.List.{List};
 ghost use Prim.Native.Nat.{ℕ, _+_, _*_, _-_, _<_, _≤_, _^_};
 ghost use lib.Dec.{ltb, leb, eqb};
 ghost use lib.ListN.{length, take, drop};
@@ -402,4 +402,216 @@ fn next_core(core: Core, h: PageHeader, pending: Pending, position: Position) ->
         streams: core.streams,
         preskip: core.preskip,
     }
+}
+
+// ---- a page past 11
+
+// Feeds a page where an audio packet completes.
+fn feed_sound(
+    core: Core,
+    tally: Tally,
+    h: PageHeader,
+    first: Piece,
+    rest: usize,
+    lacing: &[u8],
+    body: &[u8],
+    carry: &mut [u8],
+    ends: &mut [u64],
+    sizes: &mut [u64],
+    kept: &mut [u64],
+) -> AudioFed
+    requires { ⌜ Sounding core h first rest (now lacing) (now body) (now carry) (now ends) (now sizes) (now kept) ⌝ }
+    ensures { λ r. ⌜ ((crc : Bytes → ℕ) → AudioIs r (now (carry .exit)) (now (ends .exit)) (now (sizes .exit)) (now (kept .exit)) (lateFed (readings crc) (readerOf core tally) (lentOf (now (carry .entry)) (now (ends .entry)) (now (sizes .entry)) (now (kept .entry))) (pageIn h (now (lacing .entry)) (now (body .entry))))) ⌝ }
+{
+    let pending = core.pending;
+    let bytes = first.bytes;
+    let skip = tally.skip;
+    append(pending, bytes, body, carry);
+    let mut lens = [0u32; 255];
+    match time_page(core, h, first, lacing, body, carry, &mut lens) {
+        Timed::Refused(why) => AudioFed::Refused(why),
+        Timed::Packets(count, d, place) => {
+            let last = is_last(h.flags);
+            let left = list_packets(
+                &lens,
+                count,
+                place.from,
+                skip,
+                last,
+                h.granule,
+                ends,
+                sizes,
+                kept,
+            );
+            keep_rest(rest, body, carry);
+            let counts = counts_of(count, d, place, skip, last, h.granule);
+            let next = next_core(core, h, begun(rest), Position::At(h.granule));
+            AudioFed::Accepted(next, Tally { skip: left }, counts)
+        }
+    }
+}
+
+// Feeds a page where no packet completes; its piece has `bytes` bytes.
+fn feed_silent(
+    core: Core,
+    tally: Tally,
+    h: PageHeader,
+    bytes: usize,
+    rest: usize,
+    body: &[u8],
+    carry: &mut [u8],
+) -> AudioFed
+    requires { ⌜ (bytes ≤ length (now body)) × (freshBy (core .pending) rest ≤ length (now body)) ⌝ }
+    ensures { λ r. ⌜ ((crc : Bytes → ℕ) (l ends sizes kept : List ℕ) → Silent core bytes rest l (now (body .entry)) (now (carry .entry)) ends sizes kept → AudioIs r (now (carry .exit)) ends sizes kept (lateFed (readings crc) (readerOf core tally) (lentOf (now (carry .entry)) ends sizes kept) (pageIn h l (now (body .entry))))) ⌝ }
+{
+    let pending = core.pending;
+    let position = core.position;
+    append(pending, bytes, body, carry);
+    keep_rest(fresh(pending, rest), body, carry);
+    let next = next_core(core, h, still_pending(pending, rest), position);
+    AudioFed::Accepted(
+        next,
+        tally,
+        Counts {
+            packets: 0,
+            samples: 0,
+            kept: 0,
+            skipped: 0,
+            trimmed: 0,
+            hole: 0,
+        },
+    )
+}
+
+// ---- the call
+
+// Feeds a page that fits: 9, 11, and what follows.
+fn feed_page(
+    core: Core,
+    tally: Tally,
+    h: PageHeader,
+    lacing: &[u8],
+    body: &[u8],
+    carry: &mut [u8],
+    ends: &mut [u64],
+    sizes: &mut [u64],
+    kept: &mut [u64],
+) -> AudioFed
+    requires { ⌜ Fitting core (now lacing) (now body) (now carry) (now ends) (now sizes) (now kept) ⌝ }
+    ensures { λ r. ⌜ ((crc : Bytes → ℕ) → AudioIs r (now (carry .exit)) (now (ends .exit)) (now (sizes .exit)) (now (kept .exit)) (audioOn (readings crc) (readerOf core tally) (lentOf (now (carry .entry)) (now (ends .entry)) (now (sizes .entry)) (now (kept .entry))) (pageIn h (now (lacing .entry)) (now (body .entry))))) ⌝ }
+{
+    let pending = core.pending;
+    let first = first_piece(lacing);
+    match scan_page(pending, lacing, first.values) {
+        Scan::TooLong => AudioFed::Refused(Refusal::PacketTooLong),
+        Scan::Rest(rest) => {
+            if wrong_granule(first.ends, h.granule) {
+                return AudioFed::Refused(Refusal::WrongGranule);
+            }
+            if first.ends {
+                return feed_sound(
+                    core,
+                    tally,
+                    h,
+                    first,
+                    rest,
+                    lacing,
+                    body,
+                    carry,
+                    ends,
+                    sizes,
+                    kept,
+                );
+            }
+            feed_silent(core, tally, h, first.bytes, rest, body, carry)
+        }
+    }
+}
+
+fn is_audio(phase: Phase) -> bool
+    ensures { λ r. ⌜ r ≡ isAudio phase ⌝ }
+{
+    match phase {
+        Phase::First => false,
+        Phase::Comment => false,
+        Phase::Audio => true,
+        Phase::Opened => false,
+        Phase::Ended => false,
+    }
+}
+
+// Whether lent lists of these lengths lack the room.
+fn is_short(carry: usize, ends: usize, sizes: usize, kept: usize) -> bool
+    ensures { λ r. ⌜ r ≡ (ltb carry 61440 || (ltb ends 255 || (ltb sizes 255 || ltb kept 255))) ⌝ }
+{
+    if carry < PACKET_MAX {
+        return true;
+    }
+    if ends < LIST_MAX {
+        return true;
+    }
+    if sizes < LIST_MAX {
+        return true;
+    }
+    kept < LIST_MAX
+}
+
+// The sum of at most 255 values.
+fn sum(values: &[u8]) -> usize
+    requires { ⌜ length (now values) ≤ 255 ⌝ }
+    ensures { λ r. ⌜ r ≡ total (now (values .entry)) ⌝ }
+{
+    let mut n: usize = 0;
+    let mut i: usize = 0;
+    while i < values.len() {
+        n += octets::wide(values[i]);
+        i += 1;
+    }
+    n
+}
+
+// Whether a page can have these lacing values and this body.
+fn is_body(lacing: &[u8], body: &[u8]) -> bool
+    ensures { λ r. ⌜ r ≡ isBody (now (lacing .entry)) (now (body .entry)) ⌝ }
+{
+    if lacing.len() > 255 {
+        return false;
+    }
+    sum(lacing) == body.len()
+}
+
+fn is_fed(phase: Phase, short: bool, lacing: &[u8], body: &[u8]) -> bool
+    ensures { λ r. ⌜ r ≡ (isAudio phase && (not short && isBody (now (lacing .entry)) (now (body .entry)))) ⌝ }
+{
+    if !is_audio(phase) {
+        return false;
+    }
+    if short {
+        return false;
+    }
+    is_body(lacing, body)
+}
+
+// Feeds one audio page, with the fields `h`, to the state that expects it, after refusals 2 to 8. 9: a packet would pass
+// 61,440 bytes. 11: the granule. 15, 16: a packet. 19, 18, 17: the granule and the samples. 1: a lent list is too short, or
+// these are no lacing values and body of a page, or the state is not among the audio pages; all stays.
+pub fn feed_audio(
+    core: Core,
+    tally: Tally,
+    h: PageHeader,
+    lacing: &[u8],
+    body: &[u8],
+    carry: &mut [u8],
+    ends: &mut [u64],
+    sizes: &mut [u64],
+    kept: &mut [u64],
+) -> AudioFed
+    ensures { λ r. ⌜ ((crc : Bytes → ℕ) → AudioIs r (now (carry .exit)) (now (ends .exit)) (now (sizes .exit)) (now (kept .exit)) (feedAudio (readings crc) (readerOf core tally) (lentOf (now (carry .entry)) (now (ends .entry)) (now (sizes .entry)) (now (kept .entry))) (pageIn h (now (lacing .entry)) (now (body .entry))))) ⌝ }
+{
+    let phase = core.phase;
+    let short = is_short(carry.len(), ends.len(), sizes.len(), kept.len());
+    if !is_fed(phase, short, lacing, body) {
+        return AudioFed::Refused(Refusal::ShortRoom);
+    }
+    feed_page(core, tally, h, lacing, body, carry, ends, sizes, kept)
 }
