@@ -52,7 +52,7 @@ fn is_last_page(flags: u8) -> bool
     flags / 4 % 2 == 1
 }
 
-fn is_first(phase: Phase) -> bool
+pub fn is_first(phase: Phase) -> bool
     ensures { λ r. ⌜ r ≡ isFirst phase ⌝ }
 {
     match phase {

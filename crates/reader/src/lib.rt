@@ -1,0 +1,160 @@
+// A reader of one Opus stream: starting, opening part way, and feeding one page at a time.
+ghost use mathlib.Core.Path.{_≡_};
+ghost use mathlib.Core.Bool.{true, false};
+ghost use Prim.Native.Nat.{ℕ, _+_, _≤_, _%_, _^_};
+ghost use mathlib.Core.List.{List};
+ghost use lib.ListN.{length};
+ghost use Rattle.octets.specs.Octets.{Bytes, total, copied};
+ghost use Rattle.stream.specs.declared.Phase.the-variants.{First as InFirst, Comment as InComment};
+ghost use Rattle.stream.specs.declared.Pending.the-variants.{Nothing as NoneLeft};
+ghost use Rattle.stream.specs.State.{isEnded, inHeaders};
+ghost use Rattle.stream.specs.Feed.{start as started, openPartWay, view, Lent};
+ghost use Rattle.stream.specs.Feedings.{heldOf};
+ghost use Rattle.page_checks.specs.Checked.{pageWith};
+ghost use Rattle.reader.specs.Answers.{knownAs, toldOpened, lentOf, FedIs};
+ghost use Rattle.reader.specs.Stages.{fedLate, HeaderIs};
+use granule::Position;
+use ogg_page::PageHeader;
+use opus_head::Head;
+use opus_head::Verdict;
+use opus_tags::TagsRead;
+use page_checks::Shape;
+use refusal::Refusal;
+use stream::Core;
+use stream::Counts;
+use stream::Pending;
+use stream::Phase;
+use stream::Tally;
+
+// A reader comes only from starting, opening and feeding.
+pub struct Reader {
+    core: Core,
+    tally: Tally,
+}
+
+pub enum Opened {
+    At(Reader),
+    Refused(Refusal),
+}
+
+pub enum Fed {
+    Accepted(Reader, Counts),
+    Refused(Refusal),
+}
+
+// A header page: one piece, the last of its packet or an earlier one, or a refusal.
+pub enum HeaderPiece {
+    Last,
+    Earlier,
+    Refused(Refusal),
+}
+
+// ---- readers
+
+pub fn start() -> Reader
+    ensures { λ r. ⌜ knownAs r ≡ started ⌝ }
+{
+    Reader {
+        core: Core {
+            phase: Phase::First,
+            pending: Pending::Nothing,
+            position: Position::Unset,
+            serial: 0,
+            next: 0,
+            streams: 0,
+            preskip: 0,
+        },
+        tally: Tally { skip: 0 },
+    }
+}
+
+// A reader that begins at any audio page of a stream with this header. 23: fields that a reading would refuse.
+pub fn open(head: Head) -> Opened
+    ensures { λ r. ⌜ toldOpened r ≡ openPartWay head ⌝ }
+{
+    if !opus_head::right_head(head) {
+        return Opened::Refused(Refusal::UnfitFields);
+    }
+    Opened::At(Reader {
+        core: Core {
+            phase: Phase::Opened,
+            pending: Pending::Nothing,
+            position: Position::Joined,
+            serial: 0,
+            next: 0,
+            streams: head.streams,
+            preskip: head.preskip,
+        },
+        tally: Tally { skip: 0 },
+    })
+}
+
+// The serial of the last page accepted, 0 before the first.
+pub fn serial(reader: Reader) -> u32
+    ensures { λ r. ⌜ r ≡ reader .core .serial ⌝ }
+{
+    let core = reader.core;
+    core.serial
+}
+
+// Whether the last page accepted was marked end of stream.
+pub fn is_ended(reader: Reader) -> bool
+    ensures { λ r. ⌜ r ≡ isEnded (reader .core .phase) ⌝ }
+{
+    let core = reader.core;
+    let phase = core.phase;
+    page_checks::is_ended(phase)
+}
+
+// The last granule position of an audio page, where there is one yet.
+pub fn position(reader: Reader) -> Position
+    ensures { λ r. ⌜ r ≡ reader .core .position ⌝ }
+{
+    let core = reader.core;
+    core.position
+}
+
+// How many bytes of the carry buffer the next feeding needs as this one left them.
+pub fn held(reader: Reader) -> usize
+    ensures { λ r. ⌜ r ≡ heldOf (reader .core .pending) ⌝ }
+{
+    let core = reader.core;
+    let pending = core.pending;
+    match pending {
+        Pending::Nothing => 0,
+        Pending::Held(n) => n,
+        Pending::Dropped => 0,
+    }
+}
+
+// ---- header pages
+
+// 9 to 11 of a header page.
+fn header_piece(core: Core, h: PageHeader, lacing: &[u8]) -> HeaderPiece
+    requires { ⌜ inHeaders (core .phase) ≡ true ⌝ }
+    ensures { λ r. ⌜ ((carry body : Bytes) → total (now (lacing .entry)) ≡ length body → HeaderIs r (view core carry) (pageWith h (now (lacing .entry)) body)) ⌝ }
+{
+    let phase = core.phase;
+    let pending = core.pending;
+    if page_checks::is_long(pending, lacing) {
+        return HeaderPiece::Refused(Refusal::PacketTooLong);
+    }
+    match page_checks::shape_of(lacing) {
+        Shape::Ends => {
+            if h.granule != 0 {
+                return HeaderPiece::Refused(Refusal::WrongGranule);
+            }
+            HeaderPiece::Last
+        }
+        Shape::GoesOn => {
+            if page_checks::is_first(phase) {
+                return HeaderPiece::Refused(Refusal::HeaderShape);
+            }
+            if h.granule != 18446744073709551615 {
+                return HeaderPiece::Refused(Refusal::WrongGranule);
+            }
+            HeaderPiece::Earlier
+        }
+        Shape::Other => HeaderPiece::Refused(Refusal::HeaderShape),
+    }
+}
