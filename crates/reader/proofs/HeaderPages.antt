@@ -60,6 +60,15 @@ header-granule Ended g e = absurd (false≢true e)
 some-granule : (g : ℕ) → (g ≡ 0 → ⊥) → ltb 0 g ≡ true
 some-granule g h = lt-ltb 0 g (omega arith)
 
+-- ---- the page's one piece
+
+module _ (p : Page) (sums : total (p .lacing) ≡ length (p .body)) where
+  pub says-last : shapeOf (p .lacing) ≡ Ends → (whole p ≡ p .body ∷ []) × (rest p ≡ none)
+  says-last e = rw e at (shape-says p sums)
+
+  pub says-earlier : shapeOf (p .lacing) ≡ GoesOn → (whole p ≡ []) × (rest p ≡ some (p .body))
+  says-earlier e = rw e at (shape-says p sums)
+
 -- ---- the page p, and the state t that expects it
 
 module _ (t : State) (p : Page) where
@@ -80,15 +89,12 @@ module _ (t : State) (p : Page) where
         rw (fits, wrong)
 
     module _ (e : shapeOf (p .lacing) ≡ Ends) where
-      pub says-last : (whole p ≡ p .body ∷ []) × (rest p ≡ none)
-      says-last = rw e at (shape-says p sums)
-
       last-done : seen t p .completes ≡ true
-      last-done = done-by-pieces ∙ ap nonEmpty (says-last .0)
+      last-done = done-by-pieces ∙ ap nonEmpty (says-last p sums e .0)
 
       last-shape : wrongShape (t .phase) p (seen t p) ≡ false
       unfolding wrongShape
-      last-shape = rw (last-done, says-last .0, says-last .1) (one-ends (t .phase))
+      last-shape = rw (last-done, says-last p sums e .0, says-last p sums e .1) (one-ends (t .phase))
 
       last-granule : wrongGranule (t .phase) (granuleOf p) (seen t p .completes) ≡ ltb 0 (granuleOf p)
       last-granule = ap (wrongGranule (t .phase) (granuleOf p)) last-done ∙ header-granule (t .phase) (granuleOf p) inside
@@ -102,15 +108,12 @@ module _ (t : State) (p : Page) where
       last-passes g = rw (fits, last-shape, last-granule ∙ ap (ltb 0) g)
 
     module _ (e : shapeOf (p .lacing) ≡ GoesOn) where
-      pub says-earlier : (whole p ≡ []) × (rest p ≡ some (p .body))
-      says-earlier = rw e at (shape-says p sums)
-
       earlier-done : seen t p .completes ≡ false
-      earlier-done = done-by-pieces ∙ ap nonEmpty (says-earlier .0)
+      earlier-done = done-by-pieces ∙ ap nonEmpty (says-earlier p sums e .0)
 
       earlier-shape : wrongShape (t .phase) p (seen t p) ≡ isFirst (t .phase)
       unfolding wrongShape
-      earlier-shape = rw (earlier-done, says-earlier .0, says-earlier .1) (one-goes (t .phase) inside)
+      earlier-shape = rw (earlier-done, says-earlier p sums e .0, says-earlier p sums e .1) (one-goes (t .phase) inside)
 
       earlier-granule : wrongGranule (t .phase) (granuleOf p) (seen t p .completes) ≡ not (eqb (granuleOf p) allOnes)
       unfolding wrongGranule

@@ -1,1 +1,4 @@
 pub mod HeaderPages
+pub mod Late
+pub mod HeadPage
+pub mod CommentPage

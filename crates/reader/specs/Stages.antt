@@ -1,19 +1,23 @@
 -- Feeding after 1 to 8: what is left of the rules for a core that expects the page. Assumes nothing.
+use Prim.Native.Nat.{ℕ, _+_, _%_, _^_, _≤_}
 use mathlib.Core.Path.{_≡_}
-use mathlib.Core.Bool.{Bool, true, false}
+use mathlib.Core.Bool.{false}
 use mathlib.Core.List.{List, _++_}
 use mathlib.Core.Option.{none, some}
-use lib.ListN.{length}
-use Rattle.octets.specs.Octets.{Bytes, total}
+use Rattle.octets.specs.Octets.{Bytes}
 use Rattle.refusal.specs.Checks.{Check, firstOf}
 use Rattle.ogg_crc.specs.Crc.{pageCrc}
 use Rattle.ogg_page.specs.declared.PageHeader.{PageHeader}
+use Rattle.stream.specs.declared.Phase.{Phase}
+use Rattle.stream.specs.declared.Pending.{Pending}
+use Rattle.stream.specs.declared.Pending.the-variants.{Nothing, Held, Dropped}
 use Rattle.stream.specs.declared.Core.{Core}
+use Rattle.stream.specs.declared.Counts.{Counts}
 use Rattle.stream.specs.declared.Tally.{Tally}
 use Rattle.stream.specs.Page.{Page}
 use Rattle.stream.specs.Readings.{Readings, readings}
 use Rattle.stream.specs.State.{State, isFirst}
-use Rattle.stream.specs.Packets.{Seen, seen, audioPackets}
+use Rattle.stream.specs.Packets.{Seen, seen, packetMax, audioPackets}
 use Rattle.stream.specs.Rules.{lacingChecks, headerChecks, packetChecks, timeChecks}
 use Rattle.stream.specs.Feed.{view, Lent, Fed, fedBy}
 use Rattle.page_checks.specs.declared.Shape.the-variants.{Ends, GoesOn}
@@ -33,6 +37,36 @@ fedFrom R core tally m t p = fedBy (firstOf (lateChecks R t p (seen t p))) R (re
 -- feeding a page that has passed 1 to 8 to the core that expects it
 unfoldable pub fedLate : Core → Tally → Lent → PageHeader → Bytes → Bytes → Fed
 fedLate core tally m h lacing body = fedFrom (readings pageCrc) core tally m (view core (m .carry)) (pageWith h lacing body)
+
+-- ---- header pages
+
+-- the core after a header page
+abbrev pub headerCore : Core → PageHeader → Phase → Pending → ℕ → ℕ → Core
+headerCore core h phase pending streams preskip = record {
+  phase = phase;
+  pending = pending;
+  position = core .position;
+  serial = h .serial;
+  next = (h .sequence + 1) % 2 ^ 32;
+  streams = streams;
+  preskip = preskip;
+}
+
+-- a header page lists nothing
+abbrev pub noCounts : Counts
+noCounts = record { packets = 0; samples = 0; kept = 0; skipped = 0; trimmed = 0; hole = 0 }
+
+-- what is unfinished after n more bytes of it
+abbrev pub longer : Pending → ℕ → Pending
+longer Nothing n = Held n
+longer (Held k) n = Held (k + n)
+longer Dropped n = Dropped
+
+-- n more bytes are within the bound
+abbrev pub Within : Pending → ℕ → Type 0
+Within Nothing n = n ≤ packetMax
+Within (Held k) n = k + n ≤ packetMax
+Within Dropped n = Unit {0}
 
 -- a header page by 9 to 11: a refusal, or that it is one piece, the last of its packet or an earlier one
 abbrev pub HeaderIs : HeaderPiece → State → Page → Type 0

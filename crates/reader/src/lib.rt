@@ -7,12 +7,14 @@ ghost use lib.ListN.{length};
 ghost use Rattle.octets.specs.Octets.{Bytes, total, copied};
 ghost use Rattle.stream.specs.declared.Phase.the-variants.{First as InFirst, Comment as InComment};
 ghost use Rattle.stream.specs.declared.Pending.the-variants.{Nothing as NoneLeft};
+ghost use Rattle.stream.specs.declared.Tally.{Tally as Counting};
 ghost use Rattle.stream.specs.State.{isEnded, inHeaders};
-ghost use Rattle.stream.specs.Feed.{start as started, openPartWay, view, Lent};
+ghost use Rattle.stream.specs.Packets.{packetMax};
+ghost use Rattle.stream.specs.Feed.{start as started, openPartWay, carriedIn, appended, view, Lent};
 ghost use Rattle.stream.specs.Feedings.{heldOf};
 ghost use Rattle.page_checks.specs.Checked.{pageWith};
 ghost use Rattle.reader.specs.Answers.{knownAs, toldOpened, lentOf, FedIs};
-ghost use Rattle.reader.specs.Stages.{fedLate, HeaderIs};
+ghost use Rattle.reader.specs.Stages.{fedLate, headerCore, noCounts, longer as longerBy, Within, HeaderIs};
 use granule::Position;
 use ogg_page::PageHeader;
 use opus_head::Head;
@@ -43,7 +45,7 @@ pub enum Fed {
 }
 
 // A header page: one piece, the last of its packet or an earlier one, or a refusal.
-pub enum HeaderPiece {
+enum HeaderPiece {
     Last,
     Earlier,
     Refused(Refusal),
@@ -120,11 +122,7 @@ pub fn held(reader: Reader) -> usize
 {
     let core = reader.core;
     let pending = core.pending;
-    match pending {
-        Pending::Nothing => 0,
-        Pending::Held(n) => n,
-        Pending::Dropped => 0,
-    }
+    held_in(pending)
 }
 
 // ---- header pages
@@ -156,5 +154,153 @@ fn header_piece(core: Core, h: PageHeader, lacing: &[u8]) -> HeaderPiece
             HeaderPiece::Earlier
         }
         Shape::Other => HeaderPiece::Refused(Refusal::HeaderShape),
+    }
+}
+
+fn no_counts() -> Counts
+    ensures { λ r. ⌜ r ≡ noCounts ⌝ }
+{
+    Counts {
+        packets: 0,
+        samples: 0,
+        kept: 0,
+        skipped: 0,
+        trimmed: 0,
+        hole: 0,
+    }
+}
+
+fn after_header(
+    core: Core,
+    h: PageHeader,
+    phase: Phase,
+    pending: Pending,
+    streams: u8,
+    preskip: u16,
+) -> Core
+    ensures { λ r. ⌜ r ≡ headerCore core h phase pending streams preskip ⌝ }
+{
+    let position = core.position;
+    Core {
+        phase,
+        pending,
+        position,
+        serial: h.serial,
+        next: std::num::wrapping_add_u32(h.sequence, 1),
+        streams,
+        preskip,
+    }
+}
+
+// The page of the identification header. Nothing is written to lent memory.
+fn feed_head(core: Core, h: PageHeader, lacing: &[u8], body: &[u8]) -> Fed
+    requires { ⌜ (core .phase ≡ InFirst) × (core .pending ≡ NoneLeft) ⌝ }
+    requires { ⌜ total (now lacing) ≡ length (now body) ⌝ }
+    ensures { λ r. ⌜ ((m : Lent) (tally : Counting) → FedIs (fedLate core tally m h (now (lacing .entry)) (now (body .entry))) r (m .carry) (m .ends) (m .sizes) (m .kept)) ⌝ }
+{
+    match header_piece(core, h, lacing) {
+        HeaderPiece::Last => {
+            let read = opus_head::read_head(body);
+            let verdict = read.verdict;
+            let head = read.head;
+            match verdict {
+                Verdict::Right => {
+                    let streams = head.streams;
+                    let preskip = head.preskip;
+                    let core = after_header(
+                        core,
+                        h,
+                        Phase::Comment,
+                        Pending::Nothing,
+                        streams,
+                        preskip,
+                    );
+                    let tally = Tally { skip: preskip };
+                    Fed::Accepted(Reader { core, tally }, no_counts())
+                }
+                Verdict::Refused(why) => Fed::Refused(why),
+            }
+        }
+        HeaderPiece::Earlier => Fed::Refused(Refusal::HeaderShape),
+        HeaderPiece::Refused(why) => Fed::Refused(why),
+    }
+}
+
+// ---- the comment packet
+
+// The piece goes after the held bytes; a dropped packet is not kept.
+fn append(pending: Pending, body: &[u8], carry: &mut [u8])
+    ensures { λ _. ⌜ now (carry .exit) ≡ appended InComment (carriedIn pending (now (carry .entry))) (now (body .entry)) (now (carry .entry)) ⌝ }
+{
+    match pending {
+        Pending::Nothing => octets::copy_at(carry, 0, body),
+        Pending::Held(n) => octets::copy_at(carry, n, body),
+        Pending::Dropped => {}
+    }
+}
+
+fn longer(pending: Pending, n: usize) -> Pending
+    requires { ⌜ Within pending n ⌝ }
+    ensures { λ r. ⌜ r ≡ longerBy pending n ⌝ }
+{
+    match pending {
+        Pending::Nothing => Pending::Held(n),
+        Pending::Held(k) => Pending::Held(k + n),
+        Pending::Dropped => Pending::Dropped,
+    }
+}
+
+fn held_in(pending: Pending) -> usize
+    ensures { λ r. ⌜ r ≡ heldOf pending ⌝ }
+{
+    match pending {
+        Pending::Nothing => 0,
+        Pending::Held(n) => n,
+        Pending::Dropped => 0,
+    }
+}
+
+// A page of the comment packet. It is gathered in the carry buffer from place 0, also where it is on one page.
+fn feed_comment(
+    core: Core,
+    tally: Tally,
+    h: PageHeader,
+    lacing: &[u8],
+    body: &[u8],
+    carry: &mut [u8],
+) -> Fed
+    requires { ⌜ core .phase ≡ InComment ⌝ }
+    requires { ⌜ (total (now lacing) ≡ length (now body)) × (packetMax ≤ length (now carry)) ⌝ }
+    ensures { λ r. ⌜ ((ends sizes kept : List ℕ) → FedIs (fedLate core tally (lentOf (now (carry .entry)) ends sizes kept) h (now (lacing .entry)) (now (body .entry))) r (now (carry .exit)) ends sizes kept) ⌝ }
+{
+    let pending = core.pending;
+    let streams = core.streams;
+    let preskip = core.preskip;
+    match header_piece(core, h, lacing) {
+        HeaderPiece::Last => {
+            let left = longer(pending, body.len());
+            append(pending, body, carry);
+            match opus_tags::read_tags(octets::part_of(carry, 0, held_in(left))) {
+                TagsRead::Count(_) => {
+                    let core = after_header(
+                        core,
+                        h,
+                        Phase::Audio,
+                        Pending::Nothing,
+                        streams,
+                        preskip,
+                    );
+                    Fed::Accepted(Reader { core, tally }, no_counts())
+                }
+                TagsRead::Refused(why) => Fed::Refused(why),
+            }
+        }
+        HeaderPiece::Earlier => {
+            let left = longer(pending, body.len());
+            append(pending, body, carry);
+            let core = after_header(core, h, Phase::Comment, left, streams, preskip);
+            Fed::Accepted(Reader { core, tally }, no_counts())
+        }
+        HeaderPiece::Refused(why) => Fed::Refused(why),
     }
 }
