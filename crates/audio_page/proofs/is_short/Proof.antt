@@ -1,0 +1,13 @@
+-- `audio_page::is_short` meets its contract. Assumes nothing.
+use borrow.Author.Tests.{lt-ltb, le-ltb}
+use Rattle.audio_page.proofs.is_short.Statement.{statement}
+use Rattle.audio_page.proofs.is_short.Tie as tie
+
+pub is-short-spec : {M : Type 1} → statement M
+is-short-spec =
+    tie.close
+    (tie.spec
+    (λ c. (rw (lt-ltb _ _ (c .if1 .taken))))
+    (λ c. (rw (le-ltb _ _ (c .before .if1 .left), lt-ltb _ _ (c .if2 .taken))))
+    (λ c. (rw (le-ltb _ _ (c .before .before .if1 .left), le-ltb _ _ (c .before .if2 .left), lt-ltb _ _ (c .if3 .taken))))
+    (λ c. (rw (le-ltb _ _ (c .before .before .if1 .left), le-ltb _ _ (c .before .if2 .left), le-ltb _ _ (c .if3 .left)))))

@@ -1,0 +1,2 @@
+pub mod Audio
+pub mod Code
