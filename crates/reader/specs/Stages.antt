@@ -1,25 +1,27 @@
 -- Feeding after 1 to 8: what is left of the rules for a core that expects the page. Assumes nothing.
 use Prim.Native.Nat.{ℕ, _+_, _%_, _^_, _≤_}
 use mathlib.Core.Path.{_≡_}
-use mathlib.Core.Bool.{false}
+use mathlib.Core.Bool.{Bool, false, _||_}
 use mathlib.Core.List.{List, _++_}
 use mathlib.Core.Option.{none, some}
+use lib.Dec.{ltb}
 use Rattle.octets.specs.Octets.{Bytes}
 use Rattle.refusal.specs.Checks.{Check, firstOf}
 use Rattle.ogg_crc.specs.Crc.{pageCrc}
 use Rattle.ogg_page.specs.declared.PageHeader.{PageHeader}
 use Rattle.stream.specs.declared.Phase.{Phase}
+use Rattle.stream.specs.declared.Phase.the-variants.{First, Comment, Audio, Opened, Ended}
 use Rattle.stream.specs.declared.Pending.{Pending}
 use Rattle.stream.specs.declared.Pending.the-variants.{Nothing, Held, Dropped}
 use Rattle.stream.specs.declared.Core.{Core}
 use Rattle.stream.specs.declared.Counts.{Counts}
 use Rattle.stream.specs.declared.Tally.{Tally}
-use Rattle.stream.specs.Page.{Page}
+use Rattle.stream.specs.Page.{Page, pageOf}
 use Rattle.stream.specs.Readings.{Readings, readings}
-use Rattle.stream.specs.State.{State, isFirst}
+use Rattle.stream.specs.State.{State, isFirst, expecting}
 use Rattle.stream.specs.Packets.{Seen, seen, packetMax, audioPackets}
-use Rattle.stream.specs.Rules.{lacingChecks, headerChecks, packetChecks, timeChecks}
-use Rattle.stream.specs.Feed.{view, Lent, Fed, fedBy}
+use Rattle.stream.specs.Rules.{fieldChecks, lacingChecks, headerChecks, packetChecks, timeChecks}
+use Rattle.stream.specs.Feed.{view, Lent, listMax, Fed, fedBy}
 use Rattle.page_checks.specs.declared.Shape.the-variants.{Ends, GoesOn}
 use Rattle.page_checks.specs.Shape.{shapeOf}
 use Rattle.page_checks.specs.Checked.{pageWith}
@@ -37,6 +39,26 @@ fedFrom R core tally m t p = fedBy (firstOf (lateChecks R t p (seen t p))) R (re
 -- feeding a page that has passed 1 to 8 to the core that expects it
 unfoldable pub fedLate : Core → Tally → Lent → PageHeader → Bytes → Bytes → Fed
 fedLate core tally m h lacing body = fedFrom (readings pageCrc) core tally m (view core (m .carry)) (pageWith h lacing body)
+
+-- feeding a page that has passed 1 to 4
+abbrev pub fedOn : Readings → Core → Tally → Lent → State → Page → Fed
+fedOn R core tally m t p =
+    fedBy (firstOf (fieldChecks t p ++ lateChecks R t p (seen t p))) R (record { core = core; tally = tally }) m t p (seen t p)
+
+unfoldable pub fedPage : Core → Tally → Lent → Bytes → Fed
+fedPage core tally m b = fedOn (readings pageCrc) core tally m (expecting (view core (m .carry)) (pageOf b)) (pageOf b)
+
+-- the core of a reader that expects a page, and has not ended
+abbrev pub Ready : Phase → Pending → Type 0
+Ready First pending = pending ≡ Nothing
+Ready Comment pending = Unit {0}
+Ready Audio pending = Unit {0}
+Ready Opened pending = ⊥
+Ready Ended pending = ⊥
+
+-- 1, by the lengths of what is lent
+abbrev pub shortBy : ℕ → ℕ → ℕ → ℕ → Bool
+shortBy carry ends sizes kept = ltb carry packetMax || (ltb ends listMax || (ltb sizes listMax || ltb kept listMax))
 
 -- ---- header pages
 

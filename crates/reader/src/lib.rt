@@ -5,21 +5,28 @@ ghost use Prim.Native.Nat.{ℕ, _+_, _≤_, _%_, _^_};
 ghost use mathlib.Core.List.{List};
 ghost use lib.ListN.{length};
 ghost use Rattle.octets.specs.Octets.{Bytes, total, copied};
-ghost use Rattle.stream.specs.declared.Phase.the-variants.{First as InFirst, Comment as InComment};
+ghost use Rattle.stream.specs.declared.Phase.the-variants.{First as InFirst, Comment as InComment, Audio as InAudio};
 ghost use Rattle.stream.specs.declared.Pending.the-variants.{Nothing as NoneLeft};
 ghost use Rattle.stream.specs.declared.Tally.{Tally as Counting};
 ghost use Rattle.stream.specs.State.{isEnded, inHeaders};
 ghost use Rattle.stream.specs.Packets.{packetMax};
-ghost use Rattle.stream.specs.Feed.{start as started, openPartWay, carriedIn, appended, view, Lent};
+ghost use Rattle.ogg_crc.specs.Crc.{pageCrc};
+ghost use Rattle.ogg_page.specs.Page.{headerOf};
+ghost use Rattle.ogg_page.specs.Reading.{isOnePage};
+ghost use Rattle.stream.specs.Readings.{readings};
+ghost use Rattle.stream.specs.Feed.{start as started, openPartWay, carriedIn, appended, view, Lent, isShort, feed as feedBy};
 ghost use Rattle.stream.specs.Feedings.{heldOf};
 ghost use Rattle.page_checks.specs.Checked.{pageWith};
 ghost use Rattle.reader.specs.Answers.{knownAs, toldOpened, lentOf, FedIs};
-ghost use Rattle.reader.specs.Stages.{fedLate, headerCore, noCounts, longer as longerBy, Within, HeaderIs};
+ghost use Rattle.reader.specs.Stages.{fedLate, fedPage, Ready, shortBy, headerCore, noCounts, longer as longerBy, Within, HeaderIs};
+use audio_page::AudioFed;
 use granule::Position;
 use ogg_page::PageHeader;
+use ogg_page::PageRead;
 use opus_head::Head;
 use opus_head::Verdict;
 use opus_tags::TagsRead;
+use page_checks::Checked;
 use page_checks::Shape;
 use refusal::Refusal;
 use stream::Core;
@@ -302,5 +309,128 @@ fn feed_comment(
             Fed::Accepted(Reader { core, tally }, no_counts())
         }
         HeaderPiece::Refused(why) => Fed::Refused(why),
+    }
+}
+
+// ---- pages
+
+// An audio page.
+fn feed_audio(
+    core: Core,
+    tally: Tally,
+    h: PageHeader,
+    lacing: &[u8],
+    body: &[u8],
+    carry: &mut [u8],
+    ends: &mut [u64],
+    sizes: &mut [u64],
+    kept: &mut [u64],
+) -> Fed
+    requires { ⌜ core .phase ≡ InAudio ⌝ }
+    requires { ⌜ (total (now lacing) ≡ length (now body)) × (length (now lacing) ≤ 255) ⌝ }
+    requires { ⌜ isShort (lentOf (now carry) (now ends) (now sizes) (now kept)) ≡ false ⌝ }
+    ensures { λ r. ⌜ FedIs (fedLate core tally (lentOf (now (carry .entry)) (now (ends .entry)) (now (sizes .entry)) (now (kept .entry))) h (now (lacing .entry)) (now (body .entry))) r (now (carry .exit)) (now (ends .exit)) (now (sizes .exit)) (now (kept .exit)) ⌝ }
+{
+    match audio_page::feed_audio(core, tally, h, lacing, body, carry, ends, sizes, kept) {
+        AudioFed::Accepted(core, tally, counts) => Fed::Accepted(Reader { core, tally }, counts),
+        AudioFed::Refused(why) => Fed::Refused(why),
+    }
+}
+
+// 9 to 19, by the phase of the core that expects the page.
+fn feed_late(
+    core: Core,
+    tally: Tally,
+    h: PageHeader,
+    lacing: &[u8],
+    body: &[u8],
+    carry: &mut [u8],
+    ends: &mut [u64],
+    sizes: &mut [u64],
+    kept: &mut [u64],
+) -> Fed
+    requires { ⌜ Ready (core .phase) (core .pending) ⌝ }
+    requires { ⌜ (total (now lacing) ≡ length (now body)) × (length (now lacing) ≤ 255) ⌝ }
+    requires { ⌜ isShort (lentOf (now carry) (now ends) (now sizes) (now kept)) ≡ false ⌝ }
+    ensures { λ r. ⌜ FedIs (fedLate core tally (lentOf (now (carry .entry)) (now (ends .entry)) (now (sizes .entry)) (now (kept .entry))) h (now (lacing .entry)) (now (body .entry))) r (now (carry .exit)) (now (ends .exit)) (now (sizes .exit)) (now (kept .exit)) ⌝ }
+{
+    let phase = core.phase;
+    match phase {
+        Phase::First => feed_head(core, h, lacing, body),
+        Phase::Comment => feed_comment(core, tally, h, lacing, body, carry),
+        Phase::Audio => feed_audio(core, tally, h, lacing, body, carry, ends, sizes, kept),
+        Phase::Opened => Fed::Refused(Refusal::ShortRoom),
+        Phase::Ended => Fed::Refused(Refusal::AfterEnd),
+    }
+}
+
+// 5 to 19 of a page with these fields.
+fn feed_page(
+    core: Core,
+    tally: Tally,
+    h: PageHeader,
+    page: &[u8],
+    carry: &mut [u8],
+    ends: &mut [u64],
+    sizes: &mut [u64],
+    kept: &mut [u64],
+) -> Fed
+    requires { ⌜ (isOnePage (now page) ≡ true) × (h ≡ headerOf (now page)) ⌝ }
+    requires { ⌜ isEnded (core .phase) ≡ false ⌝ }
+    requires { ⌜ isShort (lentOf (now carry) (now ends) (now sizes) (now kept)) ≡ false ⌝ }
+    ensures { λ r. ⌜ FedIs (fedPage core tally (lentOf (now (carry .entry)) (now (ends .entry)) (now (sizes .entry)) (now (kept .entry))) (now (page .entry))) r (now (carry .exit)) (now (ends .exit)) (now (sizes .exit)) (now (kept .exit)) ⌝ }
+{
+    let due = page_checks::expected(core, h);
+    match page_checks::check_fields(due, h) {
+        Checked::Passed => {
+            let lacing = ogg_page::lacing_of(page);
+            let body = ogg_page::body_of(page);
+            feed_late(due, tally, h, lacing, body, carry, ends, sizes, kept)
+        }
+        Checked::Refused(why) => Fed::Refused(why),
+    }
+}
+
+// 1
+fn is_short(carry: usize, ends: usize, sizes: usize, kept: usize) -> bool
+    ensures { λ r. ⌜ r ≡ shortBy carry ends sizes kept ⌝ }
+{
+    if carry < 61440 {
+        return true;
+    }
+    if ends < 255 {
+        return true;
+    }
+    if sizes < 255 {
+        return true;
+    }
+    kept < 255
+}
+
+// Feeds one page to a reader: the next reader and the page's own record, or the lowest refusal of 1 to 19, which leaves the
+// reader and the three lists as they were. The carry buffer has to hold, up to the held count, what the last feeding left
+// there. Of an accepted page the lists show the end stamp, the length and the kept count of each packet.
+pub fn feed(
+    reader: Reader,
+    page: &[u8],
+    carry: &mut [u8],
+    ends: &mut [u64],
+    sizes: &mut [u64],
+    kept: &mut [u64],
+) -> Fed
+    ensures { λ r. ⌜ FedIs (feedBy (readings pageCrc) (knownAs reader) (lentOf (now (carry .entry)) (now (ends .entry)) (now (sizes .entry)) (now (kept .entry))) (now (page .entry))) r (now (carry .exit)) (now (ends .exit)) (now (sizes .exit)) (now (kept .exit)) ⌝ }
+{
+    if is_short(carry.len(), ends.len(), sizes.len(), kept.len()) {
+        return Fed::Refused(Refusal::ShortRoom);
+    }
+    let core = reader.core;
+    let tally = reader.tally;
+    let phase = core.phase;
+    if page_checks::is_ended(phase) {
+        return Fed::Refused(Refusal::AfterEnd);
+    }
+    match ogg_page::read_page(page) {
+        PageRead::Page(h) => feed_page(core, tally, h, page, carry, ends, sizes, kept),
+        PageRead::Refused(why) => Fed::Refused(why),
     }
 }
