@@ -98,7 +98,7 @@ module _ (p : Bytes) (one : isOnePage p ≡ true) where
   unfolding sizeOf lacingOf
   lacing-length = let size = whole in simp (length-take, length-drop) (omega arith)
 
-  body-length : length (bodyOf p) ≡ total (lacingOf p)
+  pub body-length : length (bodyOf p) ≡ total (lacingOf p)
   unfolding sizeOf bodyOf
   body-length = let size = whole in simp length-drop (omega arith)
 

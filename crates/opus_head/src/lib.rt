@@ -137,7 +137,7 @@ fn right_plain(h: Head) -> bool
 }
 
 // Fields that a reading could have given.
-fn right_head(h: Head) -> bool
+pub fn right_head(h: Head) -> bool
     ensures { λ r. ⌜ r ≡ rightHead h ⌝ }
 {
     if h.version != 1 {

@@ -31,7 +31,7 @@ use Rattle.stream.proofs.Pieces.{Fits, RestFits}
 -- ---- copies
 
 -- what is copied to place 0 is there
-fresh : (b c : Bytes) → length b ≤ length c → take (length b) (copied c 0 b) ≡ b
+pub fresh : (b c : Bytes) → length b ≤ length c → take (length b) (copied c 0 b) ≡ b
 fresh b c h =
     ap (take (length b)) (copied-fits c 0 b (omega arith)) ∙ rw (take-length b) (take-append-seam b (drop (0 + length b) c))
 
@@ -47,7 +47,7 @@ stays-before n b c h =
     ∙ take-take n n c (le-refl n)
 
 -- and the copy stands after it
-joined-there : (n : ℕ) (b c : Bytes) → n + length b ≤ length c → take (n + length b) (copied c n b) ≡ take n c ++ b
+pub joined-there : (n : ℕ) (b c : Bytes) → n + length b ≤ length c → take (n + length b) (copied c n b) ≡ take n c ++ b
 joined-there n b c h =
     ap (take (n + length b)) (copied-fits c n b h)
     ∙ take-paste c n b (length b) (omega arith) (le-refl (length b))

@@ -1,0 +1,278 @@
+// The checks of a page that look at its fields and its lacing values alone, against what a reader expects (document 01,
+// refusals 5 to 9, and the shape that 10 asks of a header page). Every function is total.
+ghost use mathlib.Core.Path.{_≡_};
+ghost use mathlib.Core.Bool.{not, _&&_, _||_, Bool·beq};
+ghost use mathlib.Core.List.{[], _∷_};
+ghost use Prim.Native.Nat.{_≤_};
+ghost use lib.ListN.{length, drop};
+ghost use Rattle.octets.specs.Octets.{Bytes};
+ghost use Rattle.refusal.specs.Checks.{_when_, firstOf, orElse};
+ghost use Rattle.stream.specs.Page.{isContinued, isFirstPage, isLastPage};
+ghost use Rattle.stream.specs.State.{isFirst, isEnded, inHeaders, expecting};
+ghost use Rattle.stream.specs.Packets.{longFrom, afterFirst, isLong};
+ghost use Rattle.stream.specs.Rules.{wrongFlags, fieldChecks};
+ghost use Rattle.stream.specs.Feed.{carriedIn, view};
+ghost use Rattle.page_checks.specs.Checked.{found, pageWith, isPending};
+ghost use Rattle.page_checks.specs.Shape.{shapeOf};
+use ogg_page::PageHeader;
+use refusal::Refusal;
+use stream::Core;
+use stream::Pending;
+use stream::Phase;
+
+pub enum Checked {
+    Passed,
+    Refused(Refusal),
+}
+
+// What a page is of one packet: its last piece and nothing else, a piece that goes on and nothing else, or something else.
+pub enum Shape {
+    Ends,
+    GoesOn,
+    Other,
+}
+
+// ---- marks and phases
+
+fn is_continued(flags: u8) -> bool
+    ensures { λ r. ⌜ r ≡ isContinued flags ⌝ }
+{
+    flags % 2 == 1
+}
+
+fn is_first_page(flags: u8) -> bool
+    ensures { λ r. ⌜ r ≡ isFirstPage flags ⌝ }
+{
+    flags / 2 % 2 == 1
+}
+
+fn is_last_page(flags: u8) -> bool
+    ensures { λ r. ⌜ r ≡ isLastPage flags ⌝ }
+{
+    flags / 4 % 2 == 1
+}
+
+pub fn is_first(phase: Phase) -> bool
+    ensures { λ r. ⌜ r ≡ isFirst phase ⌝ }
+{
+    match phase {
+        Phase::First => true,
+        Phase::Comment => false,
+        Phase::Audio => false,
+        Phase::Opened => false,
+        Phase::Ended => false,
+    }
+}
+
+pub fn is_ended(phase: Phase) -> bool
+    ensures { λ r. ⌜ r ≡ isEnded phase ⌝ }
+{
+    match phase {
+        Phase::First => false,
+        Phase::Comment => false,
+        Phase::Audio => false,
+        Phase::Opened => false,
+        Phase::Ended => true,
+    }
+}
+
+fn in_headers(phase: Phase) -> bool
+    ensures { λ r. ⌜ r ≡ inHeaders phase ⌝ }
+{
+    match phase {
+        Phase::First => true,
+        Phase::Comment => true,
+        Phase::Audio => false,
+        Phase::Opened => false,
+        Phase::Ended => false,
+    }
+}
+
+fn is_pending(pending: Pending) -> bool
+    ensures { λ r. ⌜ r ≡ isPending pending ⌝ }
+{
+    match pending {
+        Pending::Nothing => false,
+        Pending::Held(_) => true,
+        Pending::Dropped => true,
+    }
+}
+
+fn both(a: bool, b: bool) -> bool
+    ensures { λ r. ⌜ r ≡ (a && b) ⌝ }
+{
+    if a { b } else { false }
+}
+
+fn either(a: bool, b: bool) -> bool
+    ensures { λ r. ⌜ r ≡ (a || b) ⌝ }
+{
+    if a { true } else { b }
+}
+
+fn differ(a: bool, b: bool) -> bool
+    ensures { λ r. ⌜ r ≡ not (Bool·beq a b) ⌝ }
+{
+    if a { !b } else { b }
+}
+
+// ---- the fields
+
+// One check more: it is given where none before it holds.
+fn and_then(c: Checked, why: Refusal, holds: bool) -> Checked
+    ensures { λ r. ⌜ found r ≡ orElse (found c) (firstOf (why when holds ∷ [])) ⌝ }
+{
+    match c {
+        Checked::Refused(n) => Checked::Refused(n),
+        Checked::Passed => if holds {
+            Checked::Refused(why)
+        } else {
+            Checked::Passed
+        },
+    }
+}
+
+// 7
+fn wrong_flags(phase: Phase, flags: u8) -> bool
+    ensures { λ r. ⌜ r ≡ wrongFlags phase flags ⌝ }
+{
+    let mark = differ(is_first_page(flags), is_first(phase));
+    let end = both(in_headers(phase), is_last_page(flags));
+    either(flags > 7, either(mark, end))
+}
+
+// 5 to 8, of the core that expects the page.
+pub fn check_fields(core: Core, h: PageHeader) -> Checked
+    ensures { λ r. ⌜ ((carry lacing body : Bytes) → found r ≡ firstOf (fieldChecks (view core carry) (pageWith h lacing body))) ⌝ }
+{
+    let phase = core.phase;
+    let pending = core.pending;
+    let flags = h.flags;
+    let c = and_then(
+        Checked::Passed,
+        Refusal::OtherSerial,
+        h.serial != core.serial,
+    );
+    let c = and_then(c, Refusal::OutOfSequence, h.sequence != core.next);
+    let c = and_then(c, Refusal::WrongFlags, wrong_flags(phase, flags));
+    and_then(
+        c,
+        Refusal::WrongContinued,
+        differ(is_continued(flags), is_pending(pending)),
+    )
+}
+
+// The core that expects the page: a first page brings its serial, and a page that a reader was opened at its serial, its
+// sequence number and, by its continued mark, a dropped packet.
+pub fn expected(core: Core, h: PageHeader) -> Core
+    ensures { λ r. ⌜ ((carry lacing body : Bytes) → view r carry ≡ expecting (view core carry) (pageWith h lacing body)) ⌝ }
+{
+    let phase = core.phase;
+    let position = core.position;
+    match phase {
+        Phase::First => Core {
+            phase: Phase::First,
+            pending: Pending::Nothing,
+            position,
+            serial: h.serial,
+            next: 0,
+            streams: core.streams,
+            preskip: core.preskip,
+        },
+        Phase::Opened => {
+            let pending = if is_continued(h.flags) {
+                Pending::Dropped
+            } else {
+                Pending::Nothing
+            };
+            Core {
+                phase: Phase::Audio,
+                pending,
+                position,
+                serial: h.serial,
+                next: h.sequence,
+                streams: core.streams,
+                preskip: core.preskip,
+            }
+        }
+        Phase::Comment => core,
+        Phase::Audio => core,
+        Phase::Ended => core,
+    }
+}
+
+// ---- the lacing values
+
+const PACKET_MAX: usize = 61440;
+
+// Whether a packet passes the bound, by the values from `from` on, `held` bytes of the first one being held.
+fn long_from(lacing: &[u8], from: usize, held: usize) -> bool
+    requires { ⌜ from ≤ length (now lacing) ⌝ }
+    ensures { λ r. ⌜ r ≡ longFrom held (drop from (now (lacing .entry))) ⌝ }
+{
+    let mut bytes = held;
+    let mut i = from;
+    while i < lacing.len() {
+        if bytes > PACKET_MAX {
+            return true;
+        }
+        let v = octets::wide(lacing[i]);
+        bytes += v;
+        if v < 255 {
+            if bytes > PACKET_MAX {
+                return true;
+            }
+            bytes = 0;
+        }
+        i += 1;
+    }
+    bytes > PACKET_MAX
+}
+
+// The place after the first value that ends a packet.
+fn after_first(lacing: &[u8]) -> usize
+    ensures { λ r. ⌜ (drop r (now (lacing .entry)) ≡ afterFirst (now (lacing .entry))) × (r ≤ length (now (lacing .entry))) ⌝ }
+{
+    let mut i = 0;
+    while i < lacing.len() {
+        if lacing[i] < 255 {
+            return i + 1;
+        }
+        i += 1;
+    }
+    i
+}
+
+// 9. A dropped packet is not measured.
+pub fn is_long(pending: Pending, lacing: &[u8]) -> bool
+    ensures { λ r. ⌜ ((carry : Bytes) → r ≡ isLong (carriedIn pending carry) (now (lacing .entry))) ⌝ }
+{
+    match pending {
+        Pending::Nothing => long_from(lacing, 0, 0),
+        Pending::Held(n) => long_from(lacing, 0, n),
+        Pending::Dropped => {
+            let from = after_first(lacing);
+            long_from(lacing, from, 0)
+        }
+    }
+}
+
+// Whether the values are those of one piece, and whether that ends a packet.
+pub fn shape_of(lacing: &[u8]) -> Shape
+    ensures { λ r. ⌜ r ≡ shapeOf (now (lacing .entry)) ⌝ }
+{
+    let mut i = 0;
+    while i < lacing.len() {
+        if lacing[i] < 255 {
+            if i + 1 < lacing.len() {
+                return Shape::Other;
+            }
+            return Shape::Ends;
+        }
+        i += 1;
+    }
+    if i == 0 {
+        return Shape::Other;
+    }
+    Shape::GoesOn
+}

@@ -1,0 +1,6 @@
+pub mod HeaderPages
+pub mod Late
+pub mod HeadPage
+pub mod CommentPage
+pub mod AudioPage
+pub mod Pages

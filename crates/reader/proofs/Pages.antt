@@ -1,0 +1,186 @@
+-- 1 to 8, stage by stage: what a refusal leaves, and what is left of feeding where none is given. Assumes nothing.
+use Prim.Native.Nat.{ℕ, _≤_}
+use mathlib.Core.Path.{_≡_, refl, sym, ap, _∙_}
+use mathlib.Core.Bool.{Bool, true, false, not, Bool·beq, true≢false}
+use mathlib.Core.List.{List, [], _∷_, _++_}
+use mathlib.Core.Option.{Option, none, some}
+use native.Mathlib.Omega.{arith}
+use borrow.Author.Tests.{lt-ltb, le-ltb, not-false}
+use lib.Dec.{ltb, eqb}
+use lib.ListN.{length}
+use Rattle.octets.specs.Pick.{pick}
+use Rattle.octets.specs.Octets.{Bytes, total}
+use Rattle.refusal.specs.declared.Refusal.{Refusal}
+use Rattle.refusal.specs.declared.Refusal.the-variants.{ShortRoom, AfterEnd, NotOnePage, WrongChecksum, OtherSerial, OutOfSequence, WrongFlags, WrongContinued}
+use Rattle.refusal.specs.Checks.{Check, _when_, firstOf, orElse}
+use Rattle.refusal.specs.Numbers.{numberOf}
+use Rattle.refusal.specs.Told.{gives, refuses, decided, numberIn}
+use Rattle.refusal.proofs.Checks.{first-of-append, no-refusal, passed}
+use Rattle.ogg_crc.specs.Crc.{pageCrc}
+use Rattle.ogg_page.specs.declared.PageHeader.{PageHeader}
+use Rattle.ogg_page.specs.Page.{headerOf, lacingOf, bodyOf, checksumOf}
+use Rattle.ogg_page.specs.Reading.{isOnePage, readChecks, readPage}
+use Rattle.stream.specs.declared.Phase.{Phase}
+use Rattle.stream.specs.declared.Phase.the-variants.{First, Comment, Audio, Opened, Ended}
+use Rattle.stream.specs.declared.Pending.{Pending}
+use Rattle.stream.specs.declared.Pending.the-variants.{Nothing, Held, Dropped}
+use Rattle.stream.specs.declared.Core.{Core}
+use Rattle.stream.specs.declared.Tally.{Tally}
+use Rattle.stream.specs.Page.{Page, pageOf, continued}
+use Rattle.stream.specs.Readings.{Readings, readings}
+use Rattle.stream.specs.State.{Carried, nothing, State, isEnded, unfinished, expectingIn, expecting}
+use Rattle.stream.specs.Packets.{seen}
+use Rattle.stream.specs.Rules.{wrongFlags, fieldChecks, checksOn, verdict}
+use Rattle.stream.specs.Feed.{Reader as Known, carriedIn, view, Lent, isShort, isLate, carryAfter, Fed as Outcome, fedBy, feed}
+use Rattle.stream.proofs.Step.{feeds, feeds-short}
+use Rattle.page_checks.specs.Checked.{pageWith}
+use Rattle.reader.specs.declared.Fed.{Fed}
+use Rattle.reader.specs.declared.Fed.the-variants.{Refused}
+use Rattle.reader.specs.Answers.{lentOf, FedIs}
+use Rattle.reader.specs.Stages.{lateChecks, fedFrom, fedLate, fedOn, fedPage, Ready, shortBy}
+use Rattle.reader.proofs.Late.{lateIn}
+
+-- ---- what a core that expects a page is
+
+pending-nothing : (k : Pending) (c : Bytes) → carriedIn k c ≡ nothing → k ≡ Nothing
+pending-nothing Nothing c e = refl
+pending-nothing (Held n) c e = let z : _≡_ {A = ℕ} 0 1 = cc in absurd (omega arith)
+pending-nothing Dropped c e = let z : _≡_ {A = ℕ} 0 1 = cc in absurd (omega arith)
+
+pub ready : (core due : Core) (c : Bytes) (p : Page) → isEnded (core .phase) ≡ false → view due c ≡ expecting (view core c) p → Ready (due .phase) (due .pending)
+unfolding expecting
+ready core due c p going e = by (core .phase) refl
+  where
+    by : (ph : Phase) → core .phase ≡ ph → Ready (due .phase) (due .pending)
+    by First q =
+        let f : view due c ≡ expectingIn First (view core c) p = rw q at e in
+        let g : due .phase ≡ First = ap (λ (s : State). s .phase) f in
+        rw g (pending-nothing (due .pending) c (ap (λ (s : State). s .carried) f))
+    by Comment q = let g : due .phase ≡ Comment = (let f = rw q at e in ap (λ (s : State). s .phase) f) in rw g tt
+    by Audio q = let g : due .phase ≡ Audio = (let f = rw q at e in ap (λ (s : State). s .phase) f) in rw g tt
+    by Opened q = let g : due .phase ≡ Audio = (let f = rw q at e in ap (λ (s : State). s .phase) f) in rw g tt
+    by Ended q = absurd (true≢false (rw q at going))
+
+-- a reader that has ended expects nothing else
+still-ended : (s : State) (p : Page) → isEnded (expecting s p .phase) ≡ isEnded (s .phase)
+unfolding expecting
+still-ended s p = by (s .phase) refl
+  where
+    by : (ph : Phase) → s .phase ≡ ph → isEnded (expectingIn ph s p .phase) ≡ isEnded (s .phase)
+    by First q = ap isEnded (sym q)
+    by Comment q = refl
+    by Audio q = refl
+    by Opened q = ap isEnded (sym q)
+    by Ended q = refl
+
+-- ---- 5 to 8
+
+module _ (core due : Core) (tally : Tally) (m : Lent) (t : State) (p : Page) where
+  abbrev R : Readings
+  R = readings pageCrc
+
+  -- the reader itself is not looked at
+  same-core : (v : Option Refusal) → fedBy v R (record { core = core; tally = tally }) m t p (seen t p) ≡ fedBy v R (record { core = due; tally = tally }) m t p (seen t p)
+  same-core none = refl
+  same-core (some n) = refl
+
+  past-fields : firstOf (fieldChecks t p) ≡ none → firstOf (fieldChecks t p ++ lateChecks R t p (seen t p)) ≡ firstOf (lateChecks R t p (seen t p))
+  past-fields e = first-of-append (fieldChecks t p) (lateChecks R t p (seen t p)) ∙ rw e
+
+  fields-passed : firstOf (fieldChecks t p) ≡ none → fedOn R core tally m t p ≡ fedFrom R due tally m t p
+  fields-passed e =
+      ap (λ (v : Option Refusal). fedBy v R (record { core = core; tally = tally }) m t p (seen t p)) (past-fields e)
+      ∙ same-core (firstOf (lateChecks R t p (seen t p)))
+
+  fields-early : lateIn (firstOf (fieldChecks t p)) ≡ false
+  unfolding firstOf
+  fields-early = by (not (eqb (p .header .serial) (t .serial))) (not (eqb (p .header .sequence) (t .next))) (wrongFlags (t .phase) (p .header .flags)) (not (Bool·beq (continued p) (unfinished (t .carried))))
+    where
+      by : (a b c d : Bool) → lateIn (pick a (some OtherSerial) (pick b (some OutOfSequence) (pick c (some WrongFlags) (pick d (some WrongContinued) none)))) ≡ false
+      by true b c d = refl
+      by false true c d = refl
+      by false false true d = refl
+      by false false false true = refl
+      by false false false false = refl
+
+  fields-refused : (n : Refusal) → firstOf (fieldChecks t p) ≡ some n → FedIs (fedOn R core tally m t p) (Refused n) (m .carry) (m .ends) (m .sizes) (m .kept)
+  unfolding carryAfter
+  fields-refused n e =
+      rw (first-of-append (fieldChecks t p) (lateChecks R t p (seen t p)), e)
+      (record { told = refl; held = rw (sym (ap lateIn e) ∙ fields-early); ended = refl; sized = refl; keeps = refl })
+
+module _ (core due : Core) (tally : Tally) (m : Lent) (b : Bytes) (h : PageHeader) (l body : Bytes) (header : h ≡ headerOf b) (lacing : l ≡ lacingOf b) (rest : body ≡ bodyOf b)
+    (expects : view due (m .carry) ≡ expecting (view core (m .carry)) (pageWith h l body)) where
+  page-is : pageWith h l body ≡ pageOf b
+  unfolding pageOf
+  page-is = rw (header, lacing, rest)
+
+  pub page-late : {r : Fed} {carry : Bytes} {ends sizes kept : List ℕ} → firstOf (fieldChecks (view due (m .carry)) (pageWith h l body)) ≡ none
+      → FedIs (fedLate due tally m h l body) r carry ends sizes kept → FedIs (fedPage core tally m b) r carry ends sizes kept
+  unfolding fedPage fedLate
+  page-late {r} {carry} {ends} {sizes} {kept} e is =
+      rw (← page-is, ← expects, fields-passed core due tally m (view due (m .carry)) (pageWith h l body) e) is
+
+  pub page-early : (n : Refusal) → firstOf (fieldChecks (view due (m .carry)) (pageWith h l body)) ≡ some n
+      → FedIs (fedPage core tally m b) (Refused n) (m .carry) (m .ends) (m .sizes) (m .kept)
+  unfolding fedPage
+  page-early n e = rw (← page-is, ← expects) (fields-refused core due tally m (view due (m .carry)) (pageWith h l body) n e)
+
+-- ---- 1 to 4
+
+pub short-by : (m : Lent) → isShort m ≡ shortBy (length (m .carry)) (length (m .ends)) (length (m .sizes)) (length (m .kept))
+unfolding isShort
+short-by m = refl
+
+module _ (r : Known) (m : Lent) (b : Bytes) where
+  abbrev F : Outcome
+  F = feed (readings pageCrc) r m b
+
+  pub no-room : isShort m ≡ true → FedIs F (Refused ShortRoom) (m .carry) (m .ends) (m .sizes) (m .kept)
+  no-room e = rw (feeds-short (readings pageCrc) r m b e) (record { told = refl; held = refl; ended = refl; sized = refl; keeps = refl })
+
+  module _ (room : isShort m ≡ false) where
+    abbrev s : State
+    s = view (r .core) (m .carry)
+
+    abbrev t : State
+    t = expecting s (pageOf b)
+
+    pub after-end : isEnded (r .core .phase) ≡ true → FedIs F (Refused AfterEnd) (m .carry) (m .ends) (m .sizes) (m .kept)
+    unfolding verdict checksOn firstOf carryAfter
+    after-end e =
+        rw (feeds (readings pageCrc) r m b room, still-ended s (pageOf b) ∙ e) (record { told = refl; held = refl; ended = refl; sized = refl; keeps = refl })
+
+    module _ (going : isEnded (r .core .phase) ≡ false) where
+      pub not-a-page : (why : Refusal) → refuses (numberOf why) ≡ readPage pageCrc b → FedIs F (Refused why) (m .carry) (m .ends) (m .sizes) (m .kept)
+      unfolding verdict checksOn firstOf carryAfter readPage readings
+      not-a-page why e =
+          rw (feeds (readings pageCrc) r m b room, still-ended s (pageOf b) ∙ going)
+          (by (not (isOnePage b)) (not (eqb (pageCrc b) (checksumOf b))) _ e)
+        where
+          by : (x y : Bool) (v : Option Refusal) → refuses (numberOf why) ≡ decided (pick x (some NotOnePage) (pick y (some WrongChecksum) none)) (headerOf b)
+              → FedIs (fedBy (pick x (some NotOnePage) (pick y (some WrongChecksum) v)) (readings pageCrc) r m t (pageOf b) (seen t (pageOf b))) (Refused why) (m .carry) (m .ends) (m .sizes) (m .kept)
+          by true y v k = record { told = ap refuses (ap numberIn k); held = refl; ended = refl; sized = refl; keeps = refl }
+          by false true v k = record { told = ap refuses (ap numberIn k); held = refl; ended = refl; sized = refl; keeps = refl }
+          by false false v k = let z : _≡_ {A = ℕ} 0 1 = cc in absurd (omega arith)
+
+      -- a page: what is left is 5 to 19
+      module _ (h : PageHeader) (e : readPage pageCrc b ≡ gives h) where
+        none-found : (firstOf (readChecks pageCrc b) ≡ none) × (headerOf b ≡ h)
+        unfolding readPage
+        none-found = no-refusal (firstOf (readChecks pageCrc b)) (headerOf b) h e
+
+        clear : (not (isOnePage b) ≡ false) × (firstOf (WrongChecksum when not (eqb (pageCrc b) (checksumOf b)) ∷ []) ≡ none)
+        clear = passed NotOnePage (not (isOnePage b)) _ (none-found .0)
+
+        pub one-page : isOnePage b ≡ true
+        one-page = not-false (isOnePage b) (clear .0)
+
+        pub its-header : h ≡ headerOf b
+        its-header = sym (none-found .1)
+
+        pub passes-on : {a : Fed} {carry : Bytes} {ends sizes kept : List ℕ} → FedIs (fedPage (r .core) (r .tally) m b) a carry ends sizes kept → FedIs F a carry ends sizes kept
+        unfolding verdict checksOn firstOf readings fedPage
+        passes-on is =
+            let sealed = passed WrongChecksum (not (eqb (pageCrc b) (checksumOf b))) [] (clear .1) in
+            rw (feeds (readings pageCrc) r m b room, still-ended s (pageOf b) ∙ going, clear .0, sealed .0) is
