@@ -1,9 +1,9 @@
 -- 1, 9 and 11 of an audio page, and what the two ways past them ask. Assumes nothing.
 use Prim.Native.Nat.{ℕ, _+_, _<_, _≤_, _^_}
 use mathlib.Core.Path.{_≡_, refl, sym, ap, subst, _∙_}
-use mathlib.Core.Bool.{Bool, true, false, not, _&&_, _||_, true≢false, false≢true}
+use mathlib.Core.Bool.{Bool, true, false, not, _&&_, _||_, false≢true}
 use mathlib.Core.List.{List}
-use mathlib.Core.Option.{Option, none, some}
+use mathlib.Core.Option.{Option, some}
 use native.Mathlib.Nat.{add-zero}
 use native.Mathlib.Omega.{arith}
 use borrow.Author.Tests.{ltb-false, leb-true, eqb-true, not-true}
@@ -28,16 +28,14 @@ use Rattle.stream.specs.Readings.{Readings}
 use Rattle.stream.specs.State.{State}
 use Rattle.stream.specs.Packets.{Seen, seen, packetMax, tooLong, longFrom, isLong}
 use Rattle.stream.specs.Rules.{wrongShape, wrongGranule}
-use Rattle.stream.specs.Feed.{Reader, carriedIn, view, Lent, isShort, carryAfter, fedBy}
+use Rattle.stream.specs.Feed.{carriedIn, view, Lent, isShort, carryAfter, fedBy}
 use Rattle.stream.proofs.Pieces.{or-left, or-right, seen-completes}
 use Rattle.audio_page.specs.declared.AudioFed.{AudioFed}
 use Rattle.audio_page.specs.declared.AudioFed.the-variants.{Refused}
-use Rattle.audio_page.specs.declared.Piece.{Piece}
-use Rattle.audio_page.specs.declared.Scan.{Scan}
 use Rattle.audio_page.specs.declared.Scan.the-variants.{TooLong, Rest}
 use Rattle.audio_page.specs.Audio.{isAudio, isBody, fits, audioChecks, audioFed, audioOn, feedAudio, readerOf, pageIn, lentOf, AudioIs}
-use Rattle.audio_page.specs.Code.{firstFrom, scanBy, tailBy, granuleWrong, heldEnd, freshBy, lateChecks, lateFed, Fitting, Scanned, Sounding, Silent}
-use Rattle.audio_page.proofs.Splitting.{Ended, Open, ways, after-first, ends-first}
+use Rattle.audio_page.specs.Code.{firstFrom, scanBy, tailBy, granuleWrong, heldEnd, freshBy, lateChecks, lateFed, Fitting, Sounding, Silent}
+use Rattle.audio_page.proofs.Splitting.{Ended, ways, after-first, ends-first}
 use Rattle.audio_page.proofs.Seeing.{tail-le, tail-here}
 use Rattle.audio_page.proofs.Feeding.{inAudio, in-audio}
 

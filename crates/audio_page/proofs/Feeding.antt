@@ -1,8 +1,7 @@
 -- A page past 11, by what is seen of it: what the code tells and leaves is what the rules say. Assumes nothing.
 use Prim.Native.Nat.{ℕ, _+_, _-_, _≤_}
-use mathlib.Core.Path.{_≡_, refl, sym, ap, ap₂, subst, _∙_}
-use mathlib.Core.Bool.{Bool, true, false}
-use mathlib.Core.List.{List, [], _++_, map}
+use mathlib.Core.Path.{_≡_, refl, sym, ap, ap₂, _∙_}
+use mathlib.Core.List.{List, _++_, map}
 use mathlib.Core.Option.{Option, none, some}
 use native.Mathlib.Omega.{arith}
 use lib.ListN.{length, take}
@@ -24,11 +23,11 @@ use Rattle.stream.specs.declared.Core.{Core}
 use Rattle.stream.specs.declared.Tally.{Tally}
 use Rattle.stream.specs.declared.Counts.{Counts}
 use Rattle.stream.specs.Page.{Page, isLastPage, last, whole, rest}
-use Rattle.stream.specs.Readings.{Readings, readings}
+use Rattle.stream.specs.Readings.{Readings}
 use Rattle.stream.specs.State.{Carried, State}
-use Rattle.stream.specs.Packets.{Seen, begun, audioPackets, lengthsOf}
+use Rattle.stream.specs.Packets.{begun, audioPackets, lengthsOf}
 use Rattle.stream.specs.Rules.{packetChecks, timeChecks, startOn, nextOn}
-use Rattle.stream.specs.Feed.{Reader, carriedIn, pendingOf, view, Entry, entries, entriesOn, countsOn, skipOn, Lent, firstPiece, appended, newRest, withRest, carryAfter, listed, Taken, fedBy}
+use Rattle.stream.specs.Feed.{Reader, carriedIn, pendingOf, view, Entry, entries, entriesOn, countsOn, skipOn, Lent, firstPiece, appended, carryAfter, listed, fedBy}
 use Rattle.stream.proofs.Step.{gives≢refuses}
 use Rattle.audio_page.specs.declared.AudioFed.the-variants.{Accepted, Refused}
 use Rattle.audio_page.specs.Audio.{readerOf, pageIn, toldAudio, AudioIs}

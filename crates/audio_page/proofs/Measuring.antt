@@ -20,7 +20,7 @@ use Rattle.stream.specs.Page.{wholeFrom}
 use Rattle.stream.proofs.Pieces.{onwards}
 use Rattle.audio_page.specs.declared.Lengths.{Lengths}
 use Rattle.audio_page.specs.declared.Lengths.the-variants.{All, Refused}
-use Rattle.audio_page.specs.Code.{inFront, andLater, measured, toldLengths, Measures}
+use Rattle.audio_page.specs.Code.{inFront, andLater, measured, Measures}
 use Rattle.audio_page.proofs.Turns.{next, total-next}
 
 -- ---- laws of the definitions

@@ -1,15 +1,13 @@
 -- 9 and the rest on lacing values: what a turn of `scan_from` keeps. Assumes nothing.
 use Prim.Native.Nat.{ℕ, _+_, _<_, _≤_}
-use mathlib.Core.Path.{_≡_, refl, ap₂, _∙_}
+use mathlib.Core.Path.{_≡_, refl, _∙_}
 use mathlib.Core.Bool.{Bool, true, false, _||_}
 use mathlib.Core.List.{List, [], _∷_}
 use native.Mathlib.Omega.{arith}
 use borrow.Author.Tests.{lt-ltb, le-ltb}
 use lib.Dec.{ltb}
-use Rattle.octets.specs.Pick.{pick}
 use Rattle.ogg_page.specs.Lacing.{endedFrom, unfinishedFrom}
 use Rattle.stream.specs.Packets.{packetMax, tooLong, anyLong, longFrom}
-use Rattle.audio_page.specs.declared.Scan.{Scan}
 use Rattle.audio_page.specs.declared.Scan.the-variants.{TooLong, Rest}
 use Rattle.audio_page.specs.Code.{scanOf}
 

@@ -1,16 +1,13 @@
 -- What `time_page` answers in each case. Assumes nothing.
-use Prim.Native.Nat.{ℕ, _+_, _<_, _^_}
+use Prim.Native.Nat.{ℕ, _<_, _^_}
 use mathlib.Core.Path.{_≡_, sym, ap, _∙_}
 use mathlib.Core.List.{List}
 use native.Mathlib.Omega.{arith}
-use lib.ListN.{take}
-use Rattle.octets.specs.Octets.{total}
 use Rattle.refusal.specs.declared.Refusal.{Refusal}
 use Rattle.refusal.specs.Checks.{firstOf}
 use Rattle.refusal.specs.Told.{Told, gives}
 use Rattle.refusal.proofs.Checks.{no-refusal}
 use Rattle.ogg_page.specs.declared.PageHeader.{PageHeader}
-use Rattle.granule.specs.declared.Position.{Position}
 use Rattle.granule.specs.declared.Placed.{Placed as Place}
 use Rattle.granule.specs.declared.Judged.{Judged}
 use Rattle.granule.specs.declared.Judged.the-variants.{Placed, Refused as Unplaced}

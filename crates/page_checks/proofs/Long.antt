@@ -1,6 +1,6 @@
 -- 9 on the lacing values, one by one. Assumes nothing.
 use mathlib.Core.Path.{_≡_, refl}
-use mathlib.Core.Bool.{Bool, true, false, _||_}
+use mathlib.Core.Bool.{Bool, true, false}
 use mathlib.Core.List.{[], _∷_}
 use Prim.Native.Nat.{ℕ, _+_, _<_, _≤_}
 use native.Mathlib.Omega.{arith}
@@ -8,7 +8,7 @@ use borrow.Author.Tests.{lt-ltb, le-ltb}
 use lib.Dec.{ltb}
 use Rattle.octets.specs.Octets.{Bytes}
 use Rattle.ogg_page.specs.Lacing.{endedFrom, unfinishedFrom}
-use Rattle.stream.specs.Packets.{packetMax, tooLong, anyLong, longFrom, afterFirst}
+use Rattle.stream.specs.Packets.{packetMax, anyLong, longFrom, afterFirst}
 
 pub goes-on : (l : Bytes) (n v : ℕ) → 255 ≤ v → longFrom n (v ∷ l) ≡ longFrom (n + v) l
 unfolding longFrom anyLong endedFrom unfinishedFrom

@@ -1,19 +1,16 @@
 -- The shape of a page on the lacing values, one by one, and what it says of the page's pieces. Assumes nothing.
-use mathlib.Core.Path.{_≡_, refl, ap, _∙_}
-use mathlib.Core.Bool.{Bool, true, false}
+use mathlib.Core.Path.{_≡_, refl}
 use mathlib.Core.List.{[], _∷_}
-use mathlib.Core.Option.{none, some}
+use mathlib.Core.Option.{none}
 use Prim.Native.Nat.{ℕ, zero, suc, _+_, _<_, _≤_}
 use native.Mathlib.Numerals.{add-one}
 use native.Mathlib.Omega.{arith}
 use borrow.Author.Tests.{lt-ltb, le-ltb}
-use lib.Dec.{ltb}
 use lib.ListN.{length}
-use Rattle.octets.specs.Pick.{pick}
 use Rattle.octets.specs.Octets.{Bytes}
 use Rattle.page_checks.specs.declared.Shape.{Shape}
 use Rattle.page_checks.specs.declared.Shape.the-variants.{Ends, GoesOn, Other}
-use Rattle.page_checks.specs.Shape.{shapeBehind, shapeFrom, shapeOf}
+use Rattle.page_checks.specs.Shape.{shapeBehind, shapeFrom}
 
 -- what there is where i values, none of which ends a packet, are all
 abbrev pub shapeAt : ℕ → Shape

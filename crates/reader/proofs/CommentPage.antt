@@ -12,7 +12,7 @@ use Rattle.octets.specs.Octets.{Bytes, total, copied}
 use Rattle.octets.proofs.Copying.{copied-fits, length-copied}
 use Rattle.refusal.specs.declared.Refusal.{Refusal}
 use Rattle.refusal.specs.declared.Refusal.the-variants.{PacketTooLong, BadTags}
-use Rattle.refusal.specs.Checks.{_when_, firstOf}
+use Rattle.refusal.specs.Checks.{firstOf}
 use Rattle.refusal.specs.Numbers.{numberOf}
 use Rattle.refusal.specs.Told.{gives, refuses, decided, retold, numberIn}
 use Rattle.refusal.proofs.Checks.{passed}

@@ -1,6 +1,6 @@
 -- The page of the identification header, after 9 to 11: 12 and 13, and the reader that follows. Assumes nothing.
 use Prim.Native.Nat.{ℕ}
-use mathlib.Core.Path.{_≡_, refl, sym, ap, _∙_}
+use mathlib.Core.Path.{_≡_, refl, ap, _∙_}
 use mathlib.Core.Bool.{Bool, true, false, not, true≢false}
 use mathlib.Core.List.{[], _∷_}
 use mathlib.Core.Option.{Option, none, some}
@@ -24,11 +24,11 @@ use Rattle.stream.specs.declared.Phase.the-variants.{First, Comment}
 use Rattle.stream.specs.declared.Pending.the-variants.{Nothing}
 use Rattle.stream.specs.declared.Core.{Core}
 use Rattle.stream.specs.declared.Tally.{Tally}
-use Rattle.stream.specs.Page.{Page, whole, rest}
+use Rattle.stream.specs.Page.{Page}
 use Rattle.stream.specs.Readings.{Readings, readings}
 use Rattle.stream.specs.State.{nothing, State, isFirst, inHeaders}
 use Rattle.stream.specs.Packets.{join, seen, audioPackets}
-use Rattle.stream.specs.Rules.{firstPacket, lacingChecks, packetChecks, timeChecks, nextOn}
+use Rattle.stream.specs.Rules.{lacingChecks, packetChecks, timeChecks, nextOn}
 use Rattle.stream.specs.Feed.{coreOf, view, Lent, skipOn, carryAfter}
 use Rattle.page_checks.specs.declared.Shape.the-variants.{Ends}
 use Rattle.page_checks.specs.Shape.{shapeOf}

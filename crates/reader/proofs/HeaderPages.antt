@@ -1,14 +1,14 @@
 -- 9 to 11 of a header page, by its shape. Assumes nothing.
-use Prim.Native.Nat.{ℕ, _<_}
+use Prim.Native.Nat.{ℕ}
 use mathlib.Core.Path.{_≡_, refl, sym, ap, _∙_}
 use mathlib.Core.Bool.{Bool, true, false, not, _&&_, _||_, false≢true}
-use mathlib.Core.List.{List, [], _∷_}
-use mathlib.Core.Option.{Option, none, some}
+use mathlib.Core.List.{[], _∷_}
+use mathlib.Core.Option.{none, some}
 use native.Mathlib.Omega.{arith}
 use borrow.Author.Tests.{lt-ltb, eq-eqb, ne-eqb}
 use lib.Dec.{ltb, eqb}
 use lib.ListN.{length}
-use Rattle.octets.specs.Octets.{Bytes, total}
+use Rattle.octets.specs.Octets.{total}
 use Rattle.refusal.specs.declared.Refusal.the-variants.{PacketTooLong, HeaderShape, WrongGranule}
 use Rattle.refusal.specs.Checks.{firstOf}
 use Rattle.stream.specs.declared.Phase.{Phase}
@@ -16,9 +16,8 @@ use Rattle.stream.specs.declared.Phase.the-variants.{First, Comment, Audio, Ope
 use Rattle.stream.specs.Page.{Page, granuleOf, completes, whole, rest}
 use Rattle.stream.specs.State.{State, isFirst, isComment, inHeaders}
 use Rattle.stream.specs.Packets.{seen, isLong}
-use Rattle.stream.specs.Rules.{onePiece, wrongShape, allOnes, wrongGranule, lacingChecks}
+use Rattle.stream.specs.Rules.{wrongShape, allOnes, wrongGranule, lacingChecks}
 use Rattle.stream.proofs.Pieces.{nonEmpty, whole-ends, seen-completes}
-use Rattle.page_checks.specs.declared.Shape.{Shape}
 use Rattle.page_checks.specs.declared.Shape.the-variants.{Ends, GoesOn, Other}
 use Rattle.page_checks.specs.Shape.{shapeOf}
 use Rattle.page_checks.proofs.Pieces.{Says, shape-says}

@@ -2,14 +2,13 @@
 use Prim.Native.Nat.{ℕ}
 use mathlib.Core.Path.{_≡_, refl, sym, ap, _∙_}
 use mathlib.Core.Bool.{Bool, true, false, true≢false}
-use mathlib.Core.List.{List, [], _++_}
+use mathlib.Core.List.{[], _++_}
 use mathlib.Core.Option.{Option, none, some}
-use native.Mathlib.Omega.{arith}
 use Rattle.octets.specs.Pick.{pick}
 use Rattle.octets.specs.Octets.{Bytes, total}
 use Rattle.refusal.specs.declared.Refusal.{Refusal}
 use Rattle.refusal.specs.declared.Refusal.the-variants.{PacketTooLong, HeaderShape, WrongGranule}
-use Rattle.refusal.specs.Checks.{Check, _when_, firstOf, orElse}
+use Rattle.refusal.specs.Checks.{firstOf}
 use Rattle.refusal.specs.Numbers.{numberOf}
 use Rattle.refusal.specs.Told.{refuses, decided, numberIn}
 use Rattle.refusal.proofs.Checks.{first-of-append}
@@ -21,11 +20,9 @@ use Rattle.stream.specs.Readings.{Readings}
 use Rattle.stream.specs.State.{State, inHeaders}
 use Rattle.stream.specs.Packets.{Seen, isLong, audioPackets, lengthsOf}
 use Rattle.stream.specs.Rules.{wrongShape, wrongGranule, lacingChecks, headerChecks, packetChecks, timeChecks, nextOn}
-use Rattle.stream.specs.Feed.{Reader as Known, coreOf, entries, entriesOn, countsOn, skipOn, Lent, firstPiece, appended, isLate, carryAfter, Fed as Outcome, fedBy}
-use Rattle.reader.specs.declared.Reader.{Reader}
-use Rattle.reader.specs.declared.Fed.{Fed}
+use Rattle.stream.specs.Feed.{Reader as Known, coreOf, entries, entriesOn, countsOn, skipOn, Lent, firstPiece, appended, isLate, carryAfter, fedBy}
 use Rattle.reader.specs.declared.Fed.the-variants.{Accepted, Refused}
-use Rattle.reader.specs.Answers.{toldFed, FedIs}
+use Rattle.reader.specs.Answers.{FedIs}
 use Rattle.reader.specs.Stages.{lateChecks, noCounts}
 
 -- ---- a refusal of 9 to 11

@@ -1,18 +1,18 @@
 -- 1 to 8, stage by stage: what a refusal leaves, and what is left of feeding where none is given. Assumes nothing.
-use Prim.Native.Nat.{ℕ, _≤_}
+use Prim.Native.Nat.{ℕ}
 use mathlib.Core.Path.{_≡_, refl, sym, ap, _∙_}
 use mathlib.Core.Bool.{Bool, true, false, not, Bool·beq, true≢false}
 use mathlib.Core.List.{List, [], _∷_, _++_}
 use mathlib.Core.Option.{Option, none, some}
 use native.Mathlib.Omega.{arith}
-use borrow.Author.Tests.{lt-ltb, le-ltb, not-false}
-use lib.Dec.{ltb, eqb}
+use borrow.Author.Tests.{not-false}
+use lib.Dec.{eqb}
 use lib.ListN.{length}
 use Rattle.octets.specs.Pick.{pick}
-use Rattle.octets.specs.Octets.{Bytes, total}
+use Rattle.octets.specs.Octets.{Bytes}
 use Rattle.refusal.specs.declared.Refusal.{Refusal}
 use Rattle.refusal.specs.declared.Refusal.the-variants.{ShortRoom, AfterEnd, NotOnePage, WrongChecksum, OtherSerial, OutOfSequence, WrongFlags, WrongContinued}
-use Rattle.refusal.specs.Checks.{Check, _when_, firstOf, orElse}
+use Rattle.refusal.specs.Checks.{_when_, firstOf}
 use Rattle.refusal.specs.Numbers.{numberOf}
 use Rattle.refusal.specs.Told.{gives, refuses, decided, numberIn}
 use Rattle.refusal.proofs.Checks.{first-of-append, no-refusal, passed}
@@ -28,15 +28,15 @@ use Rattle.stream.specs.declared.Core.{Core}
 use Rattle.stream.specs.declared.Tally.{Tally}
 use Rattle.stream.specs.Page.{Page, pageOf, continued}
 use Rattle.stream.specs.Readings.{Readings, readings}
-use Rattle.stream.specs.State.{Carried, nothing, State, isEnded, unfinished, expectingIn, expecting}
+use Rattle.stream.specs.State.{nothing, State, isEnded, unfinished, expectingIn, expecting}
 use Rattle.stream.specs.Packets.{seen}
 use Rattle.stream.specs.Rules.{wrongFlags, fieldChecks, checksOn, verdict}
-use Rattle.stream.specs.Feed.{Reader as Known, carriedIn, view, Lent, isShort, isLate, carryAfter, Fed as Outcome, fedBy, feed}
+use Rattle.stream.specs.Feed.{Reader as Known, carriedIn, view, Lent, isShort, carryAfter, Fed as Outcome, fedBy, feed}
 use Rattle.stream.proofs.Step.{feeds, feeds-short}
 use Rattle.page_checks.specs.Checked.{pageWith}
 use Rattle.reader.specs.declared.Fed.{Fed}
 use Rattle.reader.specs.declared.Fed.the-variants.{Refused}
-use Rattle.reader.specs.Answers.{lentOf, FedIs}
+use Rattle.reader.specs.Answers.{FedIs}
 use Rattle.reader.specs.Stages.{lateChecks, fedFrom, fedLate, fedOn, fedPage, Ready, shortBy}
 use Rattle.reader.proofs.Late.{lateIn}
 

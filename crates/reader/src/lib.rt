@@ -1,10 +1,10 @@
 // A reader of one Opus stream: starting, opening part way, and feeding one page at a time.
 ghost use mathlib.Core.Path.{_≡_};
 ghost use mathlib.Core.Bool.{true, false};
-ghost use Prim.Native.Nat.{ℕ, _+_, _≤_, _%_, _^_};
+ghost use Prim.Native.Nat.{ℕ, _+_, _≤_};
 ghost use mathlib.Core.List.{List};
 ghost use lib.ListN.{length};
-ghost use Rattle.octets.specs.Octets.{Bytes, total, copied};
+ghost use Rattle.octets.specs.Octets.{Bytes, total};
 ghost use Rattle.stream.specs.declared.Phase.the-variants.{First as InFirst, Comment as InComment, Audio as InAudio};
 ghost use Rattle.stream.specs.declared.Pending.the-variants.{Nothing as NoneLeft};
 ghost use Rattle.stream.specs.declared.Tally.{Tally as Counting};

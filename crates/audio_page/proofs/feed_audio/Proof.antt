@@ -1,11 +1,9 @@
 -- `audio_page::feed_audio` meets its contract: what fits is fed, and the rest is refused by 1. Assumes nothing.
-use mathlib.Core.Path.{_≡_}
-use mathlib.Core.Bool.{true, false}
 use borrow.Author.Needs.{needs}
 use denote.Ref.{now}
 use Rattle.octets.proofs.Tests.{failed, held}
 use Rattle.stream.specs.Readings.{readings}
-use Rattle.audio_page.proofs.Checking.{tested, fitting, unfit, fit}
+use Rattle.audio_page.proofs.Checking.{fitting, unfit, fit}
 use Rattle.audio_page.proofs.feed_audio.Statement.{statement}
 use Rattle.audio_page.proofs.feed_audio.Tie as tie
 

@@ -1,10 +1,9 @@
 -- `audio_page::feed_silent` meets its contract: `Pages.antt` puts the steps together. Assumes nothing.
-use mathlib.Core.Path.{_≡_, ap, _∙_}
+use mathlib.Core.Path.{ap, _∙_}
 use borrow.Author.Needs.{needs}
 use denote.Ref.{now}
 use Rattle.stream.specs.declared.Pending.{Pending}
-use Rattle.stream.specs.Feed.{withRest}
-use Rattle.audio_page.specs.Code.{restOf, nextCore}
+use Rattle.audio_page.specs.Code.{nextCore}
 use Rattle.audio_page.proofs.Pages.{silent-page}
 use Rattle.audio_page.proofs.feed_silent.Statement.{statement}
 use Rattle.audio_page.proofs.feed_silent.Tie as tie

@@ -5,7 +5,6 @@ use native.Mathlib.Omega.{arith}
 use borrow.Author.Needs.{needs}
 use denote.Ref.{now}
 use Rattle.granule.specs.declared.Position.the-variants.{At}
-use Rattle.granule.specs.Judging.{placed}
 use Rattle.stream.specs.declared.Pending.{Pending}
 use Rattle.audio_page.specs.declared.Timed.the-variants.{Packets, Refused}
 use Rattle.audio_page.specs.Code.{nextCore}

@@ -1,5 +1,4 @@
 -- `page_checks::check_fields` meets its contract. Assumes nothing.
-use mathlib.Core.Path.{_≡_, _∙_}
 use borrow.Author.Needs.{needs}
 use Rattle.stream.specs.Page.{continued}
 use Rattle.page_checks.proofs.Fields.{four, pending-view}

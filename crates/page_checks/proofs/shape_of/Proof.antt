@@ -1,11 +1,9 @@
 -- `page_checks::shape_of` meets its contract. Assumes nothing.
-use mathlib.Core.Path.{_≡_, refl, sym, ap, _∙_}
-use Prim.Native.Nat.{ℕ, suc, _+_, _-_, _<_, _≤_}
-use native.Mathlib.Numerals.{add-one}
+use mathlib.Core.Path.{_≡_, refl, sym, _∙_}
+use Prim.Native.Nat.{ℕ, _+_, _-_, _<_, _≤_}
 use native.Mathlib.Omega.{arith}
 use denote.Ref.{now}
 use lib.ListN.{length, getD, drop, drop-of-length-le, length-drop}
-use Rattle.page_checks.specs.declared.Shape.the-variants.{GoesOn}
 use Rattle.page_checks.specs.Shape.{shapeFrom, shapeOf}
 use Rattle.page_checks.proofs.Values.{next}
 use Rattle.page_checks.proofs.OnePiece.{shapeAt, goes-on, ends, at-end, no-more, some-more, shape-later, shape-some}

@@ -1,5 +1,5 @@
 -- `reader::feed` meets its contract: `Pages` has its stages. Assumes nothing.
-use mathlib.Core.Path.{_≡_, sym, ap, _∙_}
+use mathlib.Core.Path.{sym, ap, _∙_}
 use borrow.Author.Needs.{needs}
 use denote.Ref.{now}
 use Rattle.ogg_page.specs.Reading.{toldRead}

@@ -2,11 +2,8 @@
 use mathlib.Core.Path.{_≡_, sym, ap, _∙_}
 use mathlib.Core.Bool.{true}
 use mathlib.Core.List.{[]}
-use Prim.Native.Nat.{ℕ}
 use borrow.Author.Needs.{needs}
 use denote.Ref.{now}
-use lib.ListN.{length, take}
-use Rattle.octets.specs.Octets.{Bytes}
 use Rattle.opus_tags.specs.Reading.{toldCount}
 use Rattle.page_checks.specs.Checked.{pageWith}
 use Rattle.stream.specs.State.{inHeaders}

@@ -1,13 +1,10 @@
 -- `reader::header_piece` meets its contract: `HeaderPages` has its ways. Assumes nothing.
 use mathlib.Core.Path.{_≡_, sym, _∙_}
-use mathlib.Core.Bool.{true, false}
 use borrow.Author.Needs.{needs}
 use denote.Ref.{now}
 use Rattle.page_checks.specs.declared.Shape.the-variants.{Ends, GoesOn, Other}
 use Rattle.page_checks.specs.Shape.{shapeOf}
 use Rattle.page_checks.specs.Checked.{pageWith}
-use Rattle.stream.specs.Page.{Page}
-use Rattle.stream.specs.State.{State}
 use Rattle.stream.specs.Feed.{view}
 use Rattle.reader.proofs.HeaderPages.{long-page, other-page, last-refused, last-passes, earlier-first, earlier-refused, earlier-passes}
 use Rattle.reader.proofs.header_piece.Statement.{statement}

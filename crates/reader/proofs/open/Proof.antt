@@ -1,5 +1,4 @@
 -- `reader::open` meets its contract. Assumes nothing.
-use mathlib.Core.Path.{_≡_}
 use borrow.Author.Needs.{needs}
 use Rattle.refusal.specs.Checks.{firstOf}
 use Rattle.stream.specs.Feed.{openPartWay}
