@@ -17,10 +17,12 @@ use Rattle.stream.specs.declared.Counts.{Counts}
 use Rattle.stream.specs.Feed.{Reader as Known, Taken, Fed as Outcome}
 use Rattle.stream.specs.Feedings.{heldOf}
 use Rattle.reader.specs.declared.Reader.{Reader}
+use Rattle.reader.specs.declared.Opened.the-variants.{At as Opened-at, Refused as Unopened}
+use Rattle.reader.specs.declared.StateOpened.the-variants.{Done, Refused as NotOpened}
 use Rattle.reader.specs.declared.Fed.the-variants.{Accepted, Refused}
 use Rattle.reader.specs.declared.StateFed.the-variants.{Accepted as Taken-in, Refused as Turned-away}
-use Rattle.reader.specs.Answers.{knownAs, FedIs}
-use Rattle.reader.specs.Numbers.{phaseNumber, pendingNumber, positionNumber, granuleIn, numbersOf, made, StandFor, phaseFrom, pendingFrom, positionFrom, readerFrom, numbersAfter, StateFedIs}
+use Rattle.reader.specs.Answers.{knownAs, toldOpened, FedIs}
+use Rattle.reader.specs.Numbers.{phaseNumber, pendingNumber, positionNumber, granuleIn, numbersOf, made, StandFor, phaseFrom, pendingFrom, positionFrom, readerFrom, StateOpenedIs, StateFedIs}
 
 phase-back : (ph : Phase) → phaseFrom (phaseNumber ph) ≡ ph
 unfolding phaseFrom
@@ -53,6 +55,27 @@ stands ph k x serial next streams preskip skip a b c d e =
     let y : preskip % 65536 ≡ preskip = omega arith in
     let z : skip % 65536 ≡ skip = omega arith in
     record { numbers = refl; back = rw (phase-back ph, pending-back k, position-back x, u, v, w, y, z) }
+
+-- ---- opening part way
+
+abbrev openedIn : Told Known → Known → Known
+openedIn (gives k) other = k
+openedIn (refuses n) other = other
+
+module _ {f : Told Known} {old : List ℕ} where
+  pub state-opened : {new : List ℕ} (r : Reader) → toldOpened (Opened-at r) ≡ f → StandFor new (knownAs r) → StateOpenedIs f Done old new
+  state-opened r e s = record {
+    told = rw (← e);
+    numbers = rw (← e) (s .numbers);
+    stand = λ k q. s .back ∙ ap (λ (x : Told Known). openedIn x (knownAs r)) (e ∙ q);
+  }
+
+  pub state-unopened : (why : Refusal) → toldOpened (Unopened why) ≡ f → StateOpenedIs f (NotOpened why) old old
+  state-unopened why e = record {
+    told = rw (← e);
+    numbers = rw (← e);
+    stand = λ k q. (let j = e ∙ q in (let z : _≡_ {A = ℕ} 0 1 = cc in absurd (omega arith)));
+  }
 
 -- ---- feeding
 

@@ -9,7 +9,7 @@ use lib.ListN.{getD}
 use Rattle.octets.specs.Pick.{pick}
 use Rattle.octets.specs.Octets.{Bytes}
 use Rattle.refusal.specs.Numbers.{numberOf}
-use Rattle.refusal.specs.Told.{Told, gives, refuses, retold}
+use Rattle.refusal.specs.Told.{Told, gives, refuses, retold, numberIn}
 use Rattle.granule.specs.declared.Position.{Position}
 use Rattle.granule.specs.declared.Position.the-variants.{Unset, Joined, At}
 use Rattle.stream.specs.declared.Phase.{Phase}
@@ -19,6 +19,8 @@ use Rattle.stream.specs.declared.Pending.the-variants.{Nothing, Held, Dropped}
 use Rattle.stream.specs.declared.Counts.{Counts}
 use Rattle.stream.specs.Feed.{Reader, Taken, Fed}
 use Rattle.stream.specs.Feedings.{heldOf}
+use Rattle.reader.specs.declared.StateOpened.{StateOpened}
+use Rattle.reader.specs.declared.StateOpened.the-variants.{Done, Refused as NotOpened}
 use Rattle.reader.specs.declared.StateFed.{StateFed}
 use Rattle.reader.specs.declared.StateFed.the-variants.{Accepted, Refused}
 
@@ -95,6 +97,23 @@ made phase pending position serial next streams preskip skip = record {
   };
   tally = record { skip = skip };
 }
+
+-- ---- opening part way
+
+abbrev pub openedNumber : StateOpened → ℕ
+openedNumber Done = 0
+openedNumber (NotOpened why) = numberOf why
+
+-- the numbers at the end: those of the reader, or what they were
+abbrev pub numbersOpened : Told Reader → List ℕ → List ℕ
+numbersOpened (gives r) old = numbersOf r
+numbersOpened (refuses n) old = old
+
+-- the answer r, and the numbers from `old` to `new`; they stand for the reader that was opened
+pub record StateOpenedIs (f : Told Reader) (r : StateOpened) (old new : List ℕ) : Type 0 where
+  pub told : openedNumber r ≡ numberIn f
+  pub numbers : new ≡ numbersOpened f old
+  pub stand : (k : Reader) → f ≡ gives k → readerFrom new ≡ k
 
 -- ---- feeding
 

@@ -19,7 +19,7 @@ ghost use Rattle.stream.specs.Feedings.{heldOf};
 ghost use Rattle.page_checks.specs.Checked.{pageWith};
 ghost use Rattle.reader.specs.Answers.{knownAs, toldOpened, lentOf, FedIs};
 ghost use Rattle.reader.specs.Stages.{fedLate, fedPage, Ready, shortBy, headerCore, noCounts, longer as longerBy, Within, HeaderIs};
-ghost use Rattle.reader.specs.Numbers.{phaseNumber, pendingNumber, positionNumber, granuleIn, made, StandFor, phaseFrom, pendingFrom, positionFrom, readerFrom, StateFedIs};
+ghost use Rattle.reader.specs.Numbers.{phaseNumber, pendingNumber, positionNumber, granuleIn, made, StandFor, phaseFrom, pendingFrom, positionFrom, readerFrom, StateOpenedIs, StateFedIs};
 use audio_page::AudioFed;
 use granule::Position;
 use ogg_page::PageHeader;
@@ -438,6 +438,11 @@ pub fn feed(
 
 // ---- a reader as sixteen numbers
 
+pub enum StateOpened {
+    Done,
+    Refused(Refusal),
+}
+
 pub enum StateFed {
     Accepted(Counts),
     Refused(Refusal),
@@ -632,6 +637,19 @@ pub fn start_state() -> [u64; 16]
     ensures { λ r. ⌜ StandFor r started ⌝ }
 {
     numbers_of(start())
+}
+
+// The same as `open`, into sixteen numbers. A refusal changes none.
+pub fn open_state(head: Head, state: &mut [u64; 16]) -> StateOpened
+    ensures { λ r. ⌜ StateOpenedIs (openPartWay head) r (now (state .entry)) (now (state .exit)) ⌝ }
+{
+    match open(head) {
+        Opened::At(reader) => {
+            *state = numbers_of(reader);
+            StateOpened::Done
+        }
+        Opened::Refused(why) => StateOpened::Refused(why),
+    }
 }
 
 // The same as `feed` with a reader in sixteen numbers. An accepted page leaves those of the next reader; a refusal changes none.
