@@ -4,3 +4,4 @@ pub mod HeadPage
 pub mod CommentPage
 pub mod AudioPage
 pub mod Pages
+pub mod States
