@@ -2,8 +2,9 @@
  *
  * The static library target/staticlib/libembulgri.a, built by `rt staticlib embulgri`, is for x86-64 Linux.
  *
- * Every function but embulgri_checksum returns a refusal's number, 0 for none. On a refusal every output stays as it
- * was. A pointer is never null, also where its length is 0. Buffers do not overlap.
+ * Every function but embulgri_checksum and embulgri_start returns a refusal's number, 0 for none. On a refusal every
+ * output stays as it was; of embulgri_feed's carry buffer the comment there says more. A pointer is never null, also
+ * where its length is 0. Buffers do not overlap.
  */
 #ifndef EMBULGRI_H
 #define EMBULGRI_H
@@ -110,6 +111,63 @@ uint32_t embulgri_tags_write(const uint8_t *vendor, size_t vendor_n, const uint8
  *   30  length is not a multiple of 120 from 120 to 5760, or the count would pass 2^63 - 1
  *   0   neither; the reading and the count are stored */
 uint32_t embulgri_clock_add(float *reading, uint64_t *count, uint64_t length);
+
+/* A reader of one stream is a state of 16 numbers. It may be copied, kept and fed again. Any 16 numbers are a legal
+ * state; what embulgri_start, embulgri_open and embulgri_feed write is:
+ *   0   how far the stream has come: 0 no page yet, 1 before the end of the comment header, 2 among the audio pages,
+ *       3 opened part way with no page yet, 4 ended
+ *   1   the unfinished packet: 0 none, 1 one that is held, 2 one that is dropped
+ *   2   how many bytes of it the carry buffer holds
+ *   3   the last granule position: 0 none yet, 1 none yet in a stream that was opened part way, 2 it is number 4
+ *   4   the last granule position
+ *   5   the serial, 6 the sequence number that is due, 7 the stream count, 8 the pre-skip, 9 the samples still to skip
+ *   10 to 15  zeros
+ * Of other numbers, one above 4 in place 0 means 4, one above 2 in places 1 and 3 means 2, those in places 5 to 9 count
+ * modulo 2^32, 2^32, 2^8, 2^16 and 2^16, and places 10 to 15 are not looked at. */
+
+/* A reader that waits for the first page of a stream. It refuses nothing. */
+void embulgri_start(uint64_t state[16]);
+
+/* A reader that waits for any audio page of a stream with this identification header. fields and mapping are as
+ * embulgri_head_read stores them. A packet that began before that page is not listed, and the pre-skip is not skipped.
+ *   23  embulgri_head_write would refuse the fields by 23
+ *   0   it would not; the 16 numbers are stored */
+uint32_t embulgri_open(const uint64_t fields[8], const uint8_t mapping[255], uint64_t state[16]);
+
+/* Feeds one page. ends, lengths and kept: for each packet that the page lists the position of its last sample, its
+ * length in samples and how many of these are kept; places past the packets stay as they were. page_out, of this page
+ * alone: packets listed, their samples, how many of these are kept, skipped and trimmed, and the hole before them; all
+ * zero on a header page and where no packet completes. Samples are at 48 kHz.
+ * carry: between two feedings it has to keep its first bytes, as many as number 2 of the state. The comment header is
+ * there from place 0 once it is complete, until an unfinished audio packet is written over it. Under 12 to 19 the page's
+ * first piece, if it continues a packet that is held or is one of the comment header, stands behind the held bytes;
+ * under any other refusal the carry buffer is as it was.
+ * The lowest number that holds is returned, but 19 and 18 before 17, and for each packet in turn 15 before 16:
+ *   1   carry_n is below 61440, or ends_n, lengths_n or kept_n below 255
+ *   2   a page marked last was accepted before
+ *   3   the bytes are not exactly one whole page, or the version is not 0
+ *   4   the checksum differs
+ *   5   the serial differs from that of the first page
+ *   6   the sequence number is not 0 on the first page, or later not the last one and 1, modulo 2^32
+ *   7   a flag above 4 is set; the first-page mark is absent on the first page or present later; the end mark is on a
+ *       page of a header
+ *   8   the continued mark is set and no packet is unfinished, or the other way round
+ *   9   a packet would pass 61440 bytes
+ *   10  the first page is not one completed packet; a page of the comment header is empty or holds anything else
+ *   11  the granule position is not 0 where a header completes, not all ones where no packet completes, or above
+ *       2^63 - 1 where an audio packet completes
+ *   12  the identification header's signature, version or length is wrong
+ *   13  its channel mapping is wrong
+ *   14  the comment header is wrong
+ *   15  an audio packet is illegal, or empty
+ *   16  the Opus packets of an audio packet differ in length
+ *   17  the granule position is too small for the packets that complete on the page
+ *   18  the first page where a packet completes is marked last, and its granule position is below the pre-skip
+ *   19  the reader was opened part way, and its first page where a packet completes is marked last
+ *   0   none of these; the state, the lists and page_out are stored */
+uint32_t embulgri_feed(uint64_t state[16], const uint8_t *page, size_t n, uint8_t *carry, size_t carry_n,
+                       uint64_t *ends, size_t ends_n, uint64_t *lengths, size_t lengths_n, uint64_t *kept, size_t kept_n,
+                       uint64_t page_out[6]);
 
 #ifdef __cplusplus
 }

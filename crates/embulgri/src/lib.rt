@@ -3,7 +3,11 @@ ghost use mathlib.Core.Path.{_≡_};
 ghost use mathlib.Core.Bool.{true};
 ghost use Rattle.ogg_crc.specs.Crc.{crc};
 ghost use Rattle.opus_tags.specs.Reading.{toldPart};
+ghost use Rattle.stream.specs.Feed.{start as started};
+ghost use Rattle.reader.specs.Answers.{lentOf};
+ghost use Rattle.reader.specs.Numbers.{numbersOf};
 ghost use Rattle.embulgri.specs.Answers.{PageIn, PageOut, PacketIn, HeadIn, HeadLaid, headNumbers, fitting, headFrom, TagsIn, PartIn, VendorIn, CommentIn, GainIn, TagsOut, ClockAfter};
+ghost use Rattle.embulgri.specs.Feeding.{OpenedIn, pageRecord, FedIn};
 use ogg_page::PageHeader;
 use ogg_page::PageRead;
 use ogg_page::PageWritten;
@@ -17,7 +21,10 @@ use opus_packet::PacketRead;
 use opus_tags::PartRead;
 use opus_tags::TagsRead;
 use opus_tags::TagsWritten;
+use reader::StateFed;
+use reader::StateOpened;
 use refusal::Refusal;
+use stream::Counts;
 
 #[no_mangle]
 pub extern "C" fn embulgri_checksum(bytes: &[u8]) -> u32
@@ -288,5 +295,60 @@ pub extern "C" fn embulgri_clock_add(reading: &mut f32, count: &mut u64, length:
             0
         }
         Added::Refused(why) => refusal::number(why) as u32,
+    }
+}
+
+// ---- feeding a stream
+
+#[no_mangle]
+pub extern "C" fn embulgri_start(state: &mut [u64; 16])
+    ensures { λ _. ⌜ now (state .exit) ≡ numbersOf started ⌝ }
+{
+    *state = reader::start_state();
+}
+
+#[no_mangle]
+pub extern "C" fn embulgri_open(
+    fields: &[u64; 8],
+    mapping: &[u8; 255],
+    state: &mut [u64; 16],
+) -> u32
+    ensures { λ r. ⌜ OpenedIn (now (fields .entry)) (now (mapping .entry)) r (now (state .entry)) (now (state .exit)) ⌝ }
+{
+    if !numbers_fit(fields) {
+        return refusal::number(Refusal::UnfitFields) as u32;
+    }
+    match reader::open_state(head_from(fields, mapping), state) {
+        StateOpened::Done => 0,
+        StateOpened::Refused(why) => refusal::number(why) as u32,
+    }
+}
+
+// Packets listed, their samples, how many of these are kept, skipped and trimmed, and the hole before them.
+fn page_record(c: Counts) -> [u64; 6]
+    ensures { λ r. ⌜ r ≡ pageRecord c ⌝ }
+{
+    [c.packets, c.samples, c.kept, c.skipped, c.trimmed, c.hole]
+}
+
+// Into `out`: the page's own record.
+#[no_mangle]
+pub extern "C" fn embulgri_feed(
+    state: &mut [u64; 16],
+    page: &[u8],
+    carry: &mut [u8],
+    ends: &mut [u64],
+    lengths: &mut [u64],
+    kept: &mut [u64],
+    out: &mut [u64; 6],
+) -> u32
+    ensures { λ r. ⌜ FedIn (now (state .entry)) (now (page .entry)) (lentOf (now (carry .entry)) (now (ends .entry)) (now (lengths .entry)) (now (kept .entry))) r (now (state .exit)) (lentOf (now (carry .exit)) (now (ends .exit)) (now (lengths .exit)) (now (kept .exit))) (now (out .entry)) (now (out .exit)) ⌝ }
+{
+    match reader::feed_state(state, page, carry, ends, lengths, kept) {
+        StateFed::Accepted(counts) => {
+            *out = page_record(counts);
+            0
+        }
+        StateFed::Refused(why) => refusal::number(why) as u32,
     }
 }
