@@ -1,8 +1,10 @@
 //! The C interface (include/embulgri.h) with safe wrappers on slices. A slice's pointer is never
 //! null, also where its length is 0, and the borrow rules keep the buffers from overlapping.
 
+use crate::feeding::Lent;
 use crate::head::{Head, PLACES};
 use crate::ogg::Page;
+use crate::reader::NUMBERS;
 use crate::tags::JoinedTags;
 
 extern "C" {
@@ -46,6 +48,22 @@ extern "C" {
         written: *mut u64,
     ) -> u32;
     fn embulgri_clock_add(reading: *mut f32, count: *mut u64, length: u64) -> u32;
+    fn embulgri_start(state: *mut u64);
+    fn embulgri_open(fields: *const u64, mapping: *const u8, state: *mut u64) -> u32;
+    fn embulgri_feed(
+        state: *mut u64,
+        page: *const u8,
+        n: usize,
+        carry: *mut u8,
+        carry_n: usize,
+        ends: *mut u64,
+        ends_n: usize,
+        lengths: *mut u64,
+        lengths_n: usize,
+        kept: *mut u64,
+        kept_n: usize,
+        page_out: *mut u64,
+    ) -> u32;
 }
 
 pub fn checksum(bytes: &[u8]) -> u32 {
@@ -157,4 +175,43 @@ pub fn tags_write(joined: &JoinedTags, out: &mut [u8], written: &mut u64) -> u32
 pub fn clock_add(reading: &mut f32, count: &mut u64, length: u64) -> u32 {
     // SAFETY: `reading` and `count` are the two places that are written.
     unsafe { embulgri_clock_add(reading, count, length) }
+}
+
+pub fn start(state: &mut [u64; NUMBERS]) {
+    // SAFETY: `state` has the sixteen places that are written.
+    unsafe { embulgri_start(state.as_mut_ptr()) }
+}
+
+pub fn open(head: &Head, state: &mut [u64; NUMBERS]) -> u32 {
+    // SAFETY: the fields and the mapping have the places that are read; `state` has the sixteen
+    // places that are written.
+    unsafe {
+        embulgri_open(
+            head.fields().as_ptr(),
+            head.mapping.as_ptr(),
+            state.as_mut_ptr(),
+        )
+    }
+}
+
+pub fn feed(state: &mut [u64; NUMBERS], page: &[u8], lent: Lent, out: &mut [u64; 6]) -> u32 {
+    let [ends, lengths, kept] = lent.lists;
+    // SAFETY: each pointer goes with the length of its own slice, and `state` and `out` have the
+    // places that are written; all but the page are borrowed mutably, so they overlap nothing.
+    unsafe {
+        embulgri_feed(
+            state.as_mut_ptr(),
+            page.as_ptr(),
+            page.len(),
+            lent.carry.as_mut_ptr(),
+            lent.carry.len(),
+            ends.as_mut_ptr(),
+            ends.len(),
+            lengths.as_mut_ptr(),
+            lengths.len(),
+            kept.as_mut_ptr(),
+            kept.len(),
+            out.as_mut_ptr(),
+        )
+    }
 }

@@ -1,12 +1,18 @@
 //! What the tests of the Embulgri library share. The library is called over its C interface and
-//! held to an independent implementation, [`ogg`], [`opus`], [`head`], [`tags`] and [`clock`], on
-//! inputs from a deterministic generator.
+//! held to an independent implementation, [`ogg`], [`opus`], [`head`], [`tags`], [`feeding`] and
+//! [`clock`], on inputs from a deterministic generator.
 
 pub mod calls;
 pub mod clock;
 pub mod clock_inputs;
 pub mod damages;
 pub mod demands;
+pub mod feed_audio;
+pub mod feed_calls;
+pub mod feed_choice;
+pub mod feed_faults;
+pub mod feed_headers;
+pub mod feeding;
 pub mod ffi;
 pub mod head;
 pub mod head_damages;
@@ -19,8 +25,13 @@ pub mod packet_damages;
 pub mod packet_illegal;
 pub mod packet_inputs;
 pub mod packet_set;
+pub mod pieces;
 pub mod random;
+pub mod reader;
 pub mod reading;
+pub mod recording;
+pub mod recording_inputs;
+pub mod stamps;
 pub mod tags;
 pub mod tags_calls;
 pub mod tags_damages;

@@ -66,6 +66,13 @@ impl Random {
     }
 }
 
+/// How many times as long as usual the longest runs are, from EMBULGRI_TIMES (decimal) or once.
+pub fn times() -> usize {
+    env::var("EMBULGRI_TIMES").map_or(1, |text| {
+        text.parse().expect("EMBULGRI_TIMES is a decimal number")
+    })
+}
+
 /// The seed of the run, from EMBULGRI_SEED (decimal) or the default; printed when first asked
 /// for.
 fn seed_of_run() -> u64 {

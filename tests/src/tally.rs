@@ -1,6 +1,7 @@
 //! Counts of the answers in a run. A run that hardly ever reaches an answer shows little of it, so
 //! the counts are printed and held to a minimum.
 
+use crate::inputs::Change;
 use std::collections::BTreeMap;
 use std::io::{self, Write};
 
@@ -64,6 +65,28 @@ impl Tally {
             })
             .collect();
         parts.join(", ")
+    }
+}
+
+/// Counts of how often each way to make an input wrong, by its name, had the answer aimed at.
+#[derive(Default)]
+pub struct Aims {
+    counts: BTreeMap<&'static str, usize>,
+}
+
+impl Aims {
+    pub fn add<T>(&mut self, way: &Change<T>, answer: u32) {
+        let hit = way.answers.contains(&answer);
+        *self.counts.entry(way.name).or_default() += usize::from(hit);
+    }
+
+    /// Prints the counts of these ways. Fails if one is below the least that is asked of it.
+    pub fn finish<T>(&self, ways: &[Change<T>], least: fn(&Change<T>) -> usize) {
+        for way in ways {
+            let count = self.counts.get(way.name).copied().unwrap_or(0);
+            say(&format!("  {:?} by {}: {count}", way.answers, way.name));
+            assert!(count >= least(way), "{}: too few", way.name);
+        }
     }
 }
 

@@ -1,0 +1,163 @@
+//! Feeding calls of the library that watch all that they are lent, beside what the rules say that
+//! they leave.
+
+use crate::feeding::{self, Lent, LIST};
+use crate::ffi;
+use crate::head::Head;
+use crate::reader::{Reader, NUMBERS};
+use crate::reading::Reading;
+use crate::stamps::Listing;
+use crate::tags::LONGEST;
+use crate::writing::{assert_same_bytes, old_bytes, BEFORE, BEHIND};
+use std::fmt::Display;
+
+/// The most places that a call is lent of the carry buffer and of each list.
+pub const MOST_CARRY: usize = LONGEST + 320;
+pub const MOST_LIST: usize = 2 * LIST;
+
+/// How much a call is lent: of the carry buffer, and of each list.
+#[derive(Clone, Copy, Debug, PartialEq, Eq)]
+pub struct Room {
+    pub carry: usize,
+    pub lists: [usize; 3],
+}
+
+/// The least that is asked.
+pub const ENOUGH: Room = Room {
+    carry: LONGEST,
+    lists: [LIST; 3],
+};
+
+/// The numbers of a reader and the memory lent, each with places around it that stay.
+#[derive(Clone)]
+struct Memory {
+    state: [u64; NUMBERS + 2],
+    carry: Vec<u8>,
+    lists: [Vec<u64>; 3],
+}
+
+impl Memory {
+    fn new() -> Memory {
+        let list = |mark: u64| (0..).map(move |place| 0xa5a5_0000_5a5a_0000 + mark + place);
+        Memory {
+            state: [0xa5a5_5a5a; NUMBERS + 2],
+            carry: old_bytes(BEFORE + MOST_CARRY + BEHIND),
+            lists: [0x1000, 0x2000, 0x3000].map(|mark| list(mark).take(MOST_LIST + 2).collect()),
+        }
+    }
+
+    fn numbers(&self) -> &[u64; NUMBERS] {
+        self.state[1..].first_chunk().expect("sixteen places")
+    }
+
+    fn numbers_mut(&mut self) -> &mut [u64; NUMBERS] {
+        self.state[1..].first_chunk_mut().expect("sixteen places")
+    }
+
+    /// The reader's numbers, and what is lent.
+    fn lend(&mut self, room: Room) -> (&mut [u64; NUMBERS], Lent<'_>) {
+        let [ends, lengths, kept] = &mut self.lists;
+        let [ends_room, lengths_room, kept_room] = room.lists;
+        let lent = Lent {
+            carry: &mut self.carry[BEFORE..][..room.carry],
+            lists: [
+                &mut ends[1..][..ends_room],
+                &mut lengths[1..][..lengths_room],
+                &mut kept[1..][..kept_room],
+            ],
+        };
+        let numbers = self.state[1..].first_chunk_mut().expect("sixteen places");
+        (numbers, lent)
+    }
+}
+
+/// A reader of the library beside one by the rules.
+#[derive(Clone)]
+pub struct Feeder {
+    library: Memory,
+    rules: Memory,
+}
+
+impl Feeder {
+    /// Readers of these numbers.
+    pub fn of(numbers: [u64; NUMBERS]) -> Feeder {
+        let mut memory = Memory::new();
+        *memory.numbers_mut() = numbers;
+        Feeder {
+            library: memory.clone(),
+            rules: memory,
+        }
+    }
+
+    /// Starts both readers anew on the memory as it is.
+    pub fn start(&mut self) {
+        ffi::start(self.library.numbers_mut());
+        *self.rules.numbers_mut() = Reader::started().numbers();
+        self.check_state("started");
+    }
+
+    /// Opens both readers part way on the memory as it is, and gives the answer.
+    pub fn open(&mut self, head: &Head, case: impl Display) -> u32 {
+        let told = Reader::opened(head);
+        let answer = ffi::open(head, self.library.numbers_mut());
+        if let Ok(reader) = &told {
+            *self.rules.numbers_mut() = reader.numbers();
+        }
+        assert_eq!(answer, told.err().unwrap_or(0), "opened, {case}");
+        self.check_state(case);
+        answer
+    }
+
+    /// Sets the numbers of both readers.
+    pub fn set(&mut self, numbers: [u64; NUMBERS]) {
+        *self.library.numbers_mut() = numbers;
+        *self.rules.numbers_mut() = numbers;
+    }
+
+    pub fn numbers(&self) -> [u64; NUMBERS] {
+        *self.rules.numbers()
+    }
+
+    pub fn reader(&self) -> Reader {
+        Reader::from_numbers(self.rules.numbers())
+    }
+
+    /// Changes bytes of both carry buffers from a place on.
+    pub fn put_in_carry(&mut self, place: usize, bytes: &[u8]) {
+        for memory in [&mut self.library, &mut self.rules] {
+            memory.carry[BEFORE + place..][..bytes.len()].copy_from_slice(bytes);
+        }
+    }
+
+    /// What the rules tell of a page, both readers staying as they are.
+    pub fn foretold(&self, page: &[u8], room: Room) -> Result<Listing, u32> {
+        let mut memory = self.rules.clone();
+        let (numbers, mut lent) = memory.lend(room);
+        feeding::feed(&mut Reader::from_numbers(numbers), page, &mut lent)
+    }
+
+    /// Feeds a page to both readers, holds the library to the rules and gives what they tell.
+    pub fn feed(&mut self, page: &[u8], room: Room, case: impl Display) -> Result<Listing, u32> {
+        let (state, lent) = self.library.lend(room);
+        let found = Reading::by_library(|out| ffi::feed(state, page, lent, out));
+        let (numbers, mut lent) = self.rules.lend(room);
+        let mut reader = Reader::from_numbers(numbers);
+        let told = feeding::feed(&mut reader, page, &mut lent);
+        if told.is_ok() {
+            *numbers = reader.numbers();
+        }
+        let record = told
+            .as_ref()
+            .map(Listing::numbers)
+            .map_err(|&number| number);
+        assert_eq!(found, Reading::by_rules(record), "page's record, {case}");
+        self.check_state(&case);
+        assert_same_bytes(&self.library.carry, &self.rules.carry, &case);
+        assert!(self.library.lists == self.rules.lists, "lists, {case}");
+        told
+    }
+
+    fn check_state(&self, case: impl Display) {
+        assert_eq!(self.library.state, self.rules.state, "state, {case}");
+    }
+}
