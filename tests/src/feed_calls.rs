@@ -122,6 +122,11 @@ impl Feeder {
         Reader::from_numbers(self.rules.numbers())
     }
 
+    /// What the carry buffer holds.
+    pub fn carry(&self) -> &[u8] {
+        &self.library.carry[BEFORE..][..MOST_CARRY]
+    }
+
     /// Changes bytes of both carry buffers from a place on.
     pub fn put_in_carry(&mut self, place: usize, bytes: &[u8]) {
         for memory in [&mut self.library, &mut self.rules] {

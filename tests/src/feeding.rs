@@ -213,8 +213,8 @@ impl Feeding<'_> {
         Ok(Listing::default())
     }
 
-    /// 14. No stream has a dropped comment packet; numbers from outside can say so, and then there
-    /// is no packet to be right.
+    /// 14, also where the packet was dropped: no stream has such comments, but numbers from outside
+    /// can say so, and then there is no packet to be right.
     fn take_comments(&self, next: &mut Reader, carry: &[u8]) -> Result<Listing, u32> {
         if self.completes() {
             if self.unfinished == Unfinished::Dropped {
@@ -226,7 +226,7 @@ impl Feeding<'_> {
         Ok(Listing::default())
     }
 
-    /// 15 to 19. No stream is of 0 streams; numbers from outside can say so, and count as 1.
+    /// 15 to 19. Numbers from outside can say that there are 0 streams, which count as 1.
     fn take_audio(&self, next: &mut Reader, carry: &[u8]) -> Result<Listing, u32> {
         let streams = u64::from(next.streams.max(1));
         let mut lengths = Vec::new();

@@ -2,6 +2,8 @@
 //! held to an independent implementation, [`ogg`], [`opus`], [`head`], [`tags`], [`feeding`] and
 //! [`clock`], on inputs from a deterministic generator.
 
+pub mod accepted;
+pub mod by_hand;
 pub mod calls;
 pub mod clock;
 pub mod clock_inputs;

@@ -47,6 +47,13 @@ impl Tally {
         assert_eq!(known, total, "{run}: an answer that cannot occur");
     }
 
+    /// Fails unless each of the answers came.
+    pub fn has_all(&self, answers: &[u32]) {
+        for &answer in answers {
+            assert!(self.of(answer) > 0, "none answered by {answer}");
+        }
+    }
+
     fn total(&self) -> usize {
         self.counts.values().sum()
     }
