@@ -57,8 +57,7 @@ pub fn feed(feeder: &mut Feeder, page: &[u8]) -> Result<Vec<Listed>, u32> {
 
 /// A reader whose headers are complete.
 pub fn full(pre_skip: u64) -> Feeder {
-    let mut feeder = Feeder::of([9; 16]);
-    feeder.start();
+    let mut feeder = Feeder::started();
     let head = head::encode(&head_of(pre_skip));
     assert_eq!(feed(&mut feeder, &page(FIRST, 0, 0, &[&head])), Ok(vec![]));
     assert_eq!(feed(&mut feeder, &page(0, 0, 1, &[NO_TAGS])), Ok(vec![]));

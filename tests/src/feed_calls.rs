@@ -89,6 +89,13 @@ impl Feeder {
         }
     }
 
+    /// Readers just started.
+    pub fn started() -> Feeder {
+        let mut feeder = Feeder::of([0xa5a5_5a5a; NUMBERS]);
+        feeder.start();
+        feeder
+    }
+
     /// Starts both readers anew on the memory as it is.
     pub fn start(&mut self) {
         ffi::start(self.library.numbers_mut());

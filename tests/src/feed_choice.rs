@@ -9,7 +9,8 @@ use crate::feeding::LIST;
 use crate::inputs::Change;
 use crate::ogg;
 use crate::random::Random;
-use crate::reader::{Phase, Position, Unfinished};
+use crate::reader::{Phase, Position, Reader, Unfinished};
+use crate::recording::Written;
 use crate::tags::LONGEST;
 
 /// All the ways to make a page wrong.
@@ -42,7 +43,7 @@ pub fn room(random: &mut Random) -> Room {
 }
 
 /// A way to make a page wrong for the reader that expects it.
-pub fn way(random: &mut Random, case: &Case) -> &'static Change<Case> {
+fn way(random: &mut Random, case: &Case) -> &'static Change<Case> {
     let ways = match random.below(16) {
         0 => SHORT,
         1..=2 => FIELDS,
@@ -90,15 +91,21 @@ pub struct Fault {
     pub way: Option<&'static Change<Case>>,
 }
 
-/// Makes a page wrong, mostly in one way.
-pub fn fault(random: &mut Random, case: &Case) -> Fault {
-    let mut wrong = case.clone();
+/// Makes a page wrong for a reader that expects it, mostly in one way.
+pub fn fault(random: &mut Random, reader: Reader, written: &Written) -> Fault {
+    let right = Case {
+        page: written.page.clone(),
+        room: room(random),
+        reader,
+        samples: written.samples(),
+    };
+    let mut wrong = right.clone();
     let count = match random.below(8) {
         0 => 0,
         1..=2 => 2,
         _ => 1,
     };
-    let ways: Vec<_> = (0..count).map(|_| way(random, case)).collect();
+    let ways: Vec<_> = (0..count).map(|_| way(random, &right)).collect();
     for way in &ways {
         (way.apply)(random, &mut wrong);
     }

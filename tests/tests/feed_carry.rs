@@ -45,7 +45,7 @@ fn a_comment_packet_of_61_440_bytes_is_taken_and_of_one_more_is_not() {
         let mut comments = NO_TAGS.to_vec();
         comments.resize(length, 0xff);
         let (start, end) = comments.split_at(30_600);
-        let mut feeder = Feeder::of([0; 16]);
+        let mut feeder = Feeder::started();
         let head = head::encode(&head_of(0));
         let pages = [
             page(FIRST, 0, 0, &[&head]),
@@ -100,7 +100,7 @@ fn comments_lie_in_the_carry_buffer_and_no_other_whole_packet_does() {
 
 #[test]
 fn wrong_comments_are_in_the_carry_buffer_and_a_wrong_header_is_not() {
-    let mut feeder = Feeder::of([0; 16]);
+    let mut feeder = Feeder::started();
     let before = feeder.carry().to_vec();
     assert_eq!(
         feed(&mut feeder, &page(FIRST, 0, 0, &[b"OpusHead"])),

@@ -4,36 +4,24 @@
 use embulgri_tests::accepted::{packets, Count, Packet};
 use embulgri_tests::calls::found_head;
 use embulgri_tests::feed_calls::{Feeder, Room};
-use embulgri_tests::feed_choice::{fault, room, Fault};
-use embulgri_tests::feed_faults::Case;
+use embulgri_tests::feed_choice::{fault, room};
 use embulgri_tests::feeding::LAST;
 use embulgri_tests::head::Head;
 use embulgri_tests::ogg::{self, Page};
 use embulgri_tests::opus;
 use embulgri_tests::random::{times, Random};
-use embulgri_tests::reader::{Phase, Reader};
+use embulgri_tests::reader::Phase;
 use embulgri_tests::recording::{recording, Written};
 use embulgri_tests::stamps::{Entry, NO_POSITION};
 use embulgri_tests::tally::Tally;
 
-const RECORDINGS: usize = 2_500;
+const RECORDINGS: usize = 2_000;
 const LEAST_OPENED: usize = 10_000;
 
 /// An audio page that the full reader accepted, and what it listed there.
 struct Accepted {
     page: Page,
     listed: Vec<Entry>,
-}
-
-/// A page made wrong for the reader that expects it.
-fn wrong(random: &mut Random, feeder: &Feeder, written: &Written) -> Fault {
-    let case = Case {
-        page: written.page.clone(),
-        room: room(random),
-        reader: feeder.reader(),
-        samples: written.samples(),
-    };
-    fault(random, &case)
 }
 
 /// A full reader, and what it accepted: the first page's header, and the audio pages.
@@ -46,7 +34,7 @@ struct Full {
 impl Full {
     fn new() -> Full {
         Full {
-            feeder: Feeder::of(Reader::started().numbers()),
+            feeder: Feeder::started(),
             head: None,
             stream: Vec::new(),
         }
@@ -73,7 +61,7 @@ fn accepted(random: &mut Random, pages: &[Written]) -> (Head, Vec<Accepted>) {
     let mut full = Full::new();
     for written in pages {
         for _ in 0..random.below(3) {
-            let wrong = wrong(random, &full.feeder, written);
+            let wrong = fault(random, full.feeder.reader(), written);
             full.feed(&wrong.bytes, wrong.room);
         }
         full.feed(&ogg::encode(&written.page), room(random));
@@ -153,7 +141,7 @@ fn feed_refused(random: &mut Random, feeder: &mut Feeder, page: &Page) {
             page: page.clone(),
             lengths: vec![960],
         };
-        let wrong = wrong(random, feeder, &written);
+        let wrong = fault(random, feeder.reader(), &written);
         if feeder.foretold(&wrong.bytes, wrong.room).is_err() {
             let told = feeder.feed(&wrong.bytes, wrong.room, wrong.name);
             assert!(told.is_err());

@@ -80,11 +80,13 @@ const ON_AUDIO: [Fault; 3] = [
     (11, |draft| draft.page.granule = NO_GRANULE),
 ];
 
-/// Makes a page wrong in each choice of the faults, and holds the answer to the first in the order.
+/// Makes a page wrong in each choice of up to three faults, and holds the answer to the first in the
+/// order.
 fn check_all(feeder: &Feeder, right: &Draft, faults: &[Fault]) {
     let told = feeder.clone().feed(&right.bytes(), right.room, "no fault");
     assert!(told.is_ok());
-    for choice in 1..1_u32 << faults.len() {
+    let choices = 1..1_u32 << faults.len();
+    for choice in choices.filter(|choice| choice.count_ones() <= 3) {
         let chosen = |&(place, _): &(usize, &Fault)| choice >> place & 1 == 1;
         let mut draft = right.clone();
         let mut first = u32::MAX;
@@ -111,10 +113,6 @@ fn fed(mut feeder: Feeder, pages: &[Draft]) -> Feeder {
         assert!(told.is_ok());
     }
     feeder
-}
-
-fn started() -> Feeder {
-    Feeder::of(Reader::started().numbers())
 }
 
 /// An identification header of so many streams, with pre-skip 312.
@@ -159,7 +157,7 @@ fn audio(last: u64, opened: bool) -> (Feeder, Draft) {
         }
         false => {
             let [one, other] = comment_pages();
-            fed(started(), &[first_page(2), one, other, start])
+            fed(Feeder::started(), &[first_page(2), one, other, start])
         }
     };
     (feeder, next)
@@ -177,13 +175,13 @@ fn at(feeder: &Feeder, granule: u64) -> Feeder {
 #[test]
 fn faults_of_the_first_page_are_told_in_their_order() {
     let faults = [&ON_ANY[..], &ON_HEADERS, &ON_FIRST].concat();
-    check_all(&started(), &first_page(1), &faults);
+    check_all(&Feeder::started(), &first_page(1), &faults);
 }
 
 #[test]
 fn faults_of_a_comment_page_are_told_in_their_order() {
     let [first, second] = comment_pages();
-    let feeder = fed(started(), &[first_page(1), first]);
+    let feeder = fed(Feeder::started(), &[first_page(1), first]);
     let faults = [&ON_ANY[..], &ON_LATER, &ON_HEADERS, &ON_COMMENT].concat();
     check_all(&feeder, &second, &faults);
 }

@@ -34,7 +34,7 @@ impl Run {
     fn new(test: u64) -> Run {
         Run {
             random: Random::of_run(test),
-            feeder: Feeder::of(Reader::started().numbers()),
+            feeder: Feeder::started(),
             tally: Tally::default(),
             aims: Aims::default(),
             recording: 0,
@@ -71,13 +71,7 @@ impl Run {
     }
 
     fn feed_wrong(&mut self, written: &Written, reader: Reader) -> bool {
-        let case = Case {
-            page: written.page.clone(),
-            room: room(&mut self.random),
-            reader,
-            samples: written.samples(),
-        };
-        let fault = fault(&mut self.random, &case);
+        let fault = fault(&mut self.random, reader, written);
         let name = format!("recording {}: {}", self.recording, fault.name);
         let told = self.feeder.feed(&fault.bytes, fault.room, name);
         let answer = told.as_ref().err().copied().unwrap_or(0);

@@ -106,7 +106,7 @@ fn fit(page: &mut Page, reader: &Reader) {
 fn any_numbers_are_the_reader_that_they_stand_for() {
     let mut random = Random::of_run(94);
     let mut tally = Tally::default();
-    let mut feeder = Feeder::of(Reader::started().numbers());
+    let mut feeder = Feeder::started();
     for recorded in 0..RECORDINGS * times() {
         feeder.start();
         for written in recording(&mut random).pages {
