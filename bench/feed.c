@@ -12,9 +12,9 @@
 
 #include "embulgri.h"
 
-enum { LONGEST = 65307, PAGES = 16, PACKETS = 255, CARRY = 61440, ROUNDS = 15 };
+enum { LONGEST = 65307, PAGES = 16, PACKETS = 255, CARRY = 61440, ROUNDS = 101 };
 
-static const double ROUND_SECONDS = 0.1;
+static const double ROUND_SECONDS = 0.01;
 
 /* One kind of recording: all of its packets are alike. */
 struct kind {
@@ -168,25 +168,35 @@ static int by_size(const void *a, const void *b)
     return (x > y) - (x < y);
 }
 
+static void sort(double *values)
+{
+    qsort(values, ROUNDS, sizeof *values, by_size);
+}
+
 static void measure(const struct kind *kind)
 {
-    double ns[PASSES][ROUNDS];
+    double ns[PASSES][ROUNDS], ratio[PASSES][ROUNDS];
     for (int round = 0; round < ROUNDS; round++)
-        for (int i = 0; i < PASSES; i++)
+        for (int i = 0; i < PASSES; i++) {
             ns[i][round] = round_of(passes[i].run);
+            ratio[i][round] = ns[i][round] / ns[0][round];
+        }
+    for (int i = 0; i < PASSES; i++) {
+        sort(ns[i]);
+        sort(ratio[i]);
+    }
+    printf("\n%s a page\n%-10s %10s %10s %10s %12s %12s %12s\n", kind->name, "", "ns a page", "median", "MB/s",
+           "of checksum", "median", "ns a packet");
     for (int i = 0; i < PASSES; i++)
-        qsort(ns[i], ROUNDS, sizeof **ns, by_size);
-    printf("\n%s a page\n%-10s %12s %12s %12s %12s %12s\n", kind->name, "", "ns a page", "median", "MB/s", "of checksum",
-           "ns a packet");
-    for (int i = 0; i < PASSES; i++)
-        printf("%-10s %12.0f %12.0f %12.0f %12.2f %12.1f\n", passes[i].name, ns[i][0], ns[i][ROUNDS / 2],
-               page_bytes / ns[i][0] * 1e3, ns[i][0] / ns[0][0], (ns[i][0] - ns[0][0]) / kind->packets);
+        printf("%-10s %10.0f %10.0f %10.0f %12.2f %12.2f %12.1f\n", passes[i].name, ns[i][0], ns[i][ROUNDS / 2],
+               page_bytes / ns[i][0] * 1e3, ns[i][0] / ns[0][0], ratio[i][ROUNDS / 2],
+               (ns[i][0] - ns[0][0]) / kind->packets);
 }
 
 int main(void)
 {
     printf("Best and median of %d rounds, %d pages hot in cache; the load of the machine is not controlled.\n"
-           "MB/s, the ratio to the checksum alone and the time a packet above it are of the best.\n",
+           "MB/s, the time as a multiple of the checksum's and the time a packet above it are of the best.\n",
            ROUNDS, PAGES);
     feed_headers();
     for (int i = 0; i < KINDS; i++) {
