@@ -9,7 +9,6 @@ use lib.ListN.{length}
 use Rattle.octets.specs.Octets.{Bytes, total}
 use Rattle.refusal.specs.declared.Refusal.{Refusal}
 use Rattle.refusal.specs.Checks.{firstOf}
-use Rattle.ogg_crc.specs.Crc.{pageCrc}
 use Rattle.ogg_page.specs.declared.PageHeader.{PageHeader}
 use Rattle.stream.specs.declared.Phase.the-variants.{Audio}
 use Rattle.stream.specs.declared.Core.{Core}
@@ -29,24 +28,24 @@ audio-checks : (R : Readings) (t : State) (p : Page) (x : Seen) → t .phase ≡
 unfolding firstOf
 audio-checks R t p x e = rw e
 
-module _ (core : Core) (tally : Tally) (m : Lent) (h : PageHeader) (lacing body : Bytes) (sounds : core .phase ≡ Audio) where
+module _ (crc : Bytes → ℕ) (core : Core) (tally : Tally) (m : Lent) (h : PageHeader) (lacing body : Bytes) (sounds : core .phase ≡ Audio) where
   fitting : isShort m ≡ false → total lacing ≡ length body → length lacing ≤ 255 → fits (core .phase) (pageIn h lacing body) m ≡ true
   unfolding fits isBody
   fitting room sums few = rw (sounds, room, le-leb (length lacing) 255 few, eq-eqb (total lacing) (length body) sums)
 
   audio-late : isShort m ≡ false → total lacing ≡ length body → length lacing ≤ 255
-      → feedAudio (readings pageCrc) (readerOf core tally) m (pageIn h lacing body) ≡ fedLate core tally m h lacing body
+      → feedAudio (readings crc) (readerOf core tally) m (pageIn h lacing body) ≡ fedLate crc core tally m h lacing body
   unfolding feedAudio audioFed fedLate
   audio-late room sums few =
-      let R : Readings = readings pageCrc in
+      let R : Readings = readings crc in
       let t : State = view core (m .carry) in
       let p : Page = pageIn h lacing body in
       rw (fitting room sums few)
       (ap (λ (v : Option Refusal). fedBy v R (readerOf core tally) m t p (seen t p)) (audio-checks R t p (seen t p) sounds))
 
   pub audio-is : {r : AudioFed} {a : Fed} {carry : Bytes} {ends sizes kept : List ℕ} → isShort m ≡ false → total lacing ≡ length body → length lacing ≤ 255
-      → AudioIs r carry ends sizes kept (feedAudio (readings pageCrc) (readerOf core tally) m (pageIn h lacing body)) → toldFed a ≡ toldAudio r
-      → FedIs (fedLate core tally m h lacing body) a carry ends sizes kept
+      → AudioIs r carry ends sizes kept (feedAudio (readings crc) (readerOf core tally) m (pageIn h lacing body)) → toldFed a ≡ toldAudio r
+      → FedIs (fedLate crc core tally m h lacing body) a carry ends sizes kept
   audio-is room sums few is same =
       let e = audio-late room sums few in
       record {

@@ -16,7 +16,6 @@ use Rattle.refusal.specs.Checks.{firstOf}
 use Rattle.refusal.specs.Numbers.{numberOf}
 use Rattle.refusal.specs.Told.{gives, refuses, decided, retold, numberIn}
 use Rattle.refusal.proofs.Checks.{passed}
-use Rattle.ogg_crc.specs.Crc.{pageCrc}
 use Rattle.ogg_page.specs.declared.PageHeader.{PageHeader}
 use Rattle.opus_tags.specs.Layout.{Tags, tagsOf}
 use Rattle.opus_tags.specs.Right.{isTags}
@@ -102,7 +101,20 @@ wrong-tags false x why e = let z : _≡_ {A = ℕ} 0 1 = cc in absurd (omega ari
 
 -- ---- the page
 
-module _ (core : Core) (tally : Tally) (c : Bytes) (ends sizes kept : List ℕ) (h : PageHeader) (lacing body : Bytes) (comment : core .phase ≡ Comment) where
+module _ (core : Core) (c : Bytes) (h : PageHeader) (lacing body : Bytes) (sums : total lacing ≡ length body)
+    (clear : firstOf (lacingChecks (view core c) (pageWith h lacing body) (seen (view core c) (pageWith h lacing body))) ≡ none) where
+  fits : firstPiece (whole (pageWith h lacing body)) (rest (pageWith h lacing body)) ≡ body → Within (core .pending) (length body)
+  fits e =
+      within (core .pending) c body
+      (rw e at (piece-fits (carriedIn (core .pending) c) (pageWith h lacing body) (passed PacketTooLong (isLong (carriedIn (core .pending) c) lacing) _ clear .0)))
+
+  pub last-fits : shapeOf lacing ≡ Ends → Within (core .pending) (length body)
+  last-fits e = fits (rw (says-last (pageWith h lacing body) sums e .0))
+
+  pub earlier-fits : shapeOf lacing ≡ GoesOn → Within (core .pending) (length body)
+  earlier-fits e = fits (rw (says-earlier (pageWith h lacing body) sums e .0, says-earlier (pageWith h lacing body) sums e .1))
+
+module _ (crc : Bytes → ℕ) (core : Core) (tally : Tally) (c : Bytes) (ends sizes kept : List ℕ) (h : PageHeader) (lacing body : Bytes) (comment : core .phase ≡ Comment) where
   abbrev m : Lent
   m = lentOf c ends sizes kept
 
@@ -113,12 +125,12 @@ module _ (core : Core) (tally : Tally) (c : Bytes) (ends sizes kept : List ℕ) 
   p = pageWith h lacing body
 
   abbrev R : Readings
-  R = readings pageCrc
+  R = readings crc
 
   inside : inHeaders (core .phase) ≡ true
   inside = rw comment
 
-  pub comment-early : (n : Refusal) → firstOf (lacingChecks t p (seen t p)) ≡ some n → FedIs (fedLate core tally m h lacing body) (Refused n) c ends sizes kept
+  pub comment-early : (n : Refusal) → firstOf (lacingChecks t p (seen t p)) ≡ some n → FedIs (fedLate crc core tally m h lacing body) (Refused n) c ends sizes kept
   unfolding fedLate
   comment-early n e = refused-early R t p (seen t p) (record { core = core; tally = tally }) m n e
 
@@ -127,23 +139,17 @@ module _ (core : Core) (tally : Tally) (c : Bytes) (ends sizes kept : List ℕ) 
   skip-stays = rw comment
 
   module _ (sums : total lacing ≡ length body) (clear : firstOf (lacingChecks t p (seen t p)) ≡ none) where
-    fits : (firstPiece (whole p) (rest p) ≡ body) → Within (core .pending) (length body)
-    fits e = within (core .pending) c body (rw e at (piece-fits (t .carried) p (passed PacketTooLong (isLong (t .carried) lacing) _ clear .0)))
-
     -- the last piece
     module _ (e : shapeOf lacing ≡ Ends) where
       one : (whole p ≡ body ∷ []) × (rest p ≡ none)
       one = says-last p sums e
-
-      pub last-fits : Within (core .pending) (length body)
-      last-fits = fits (rw (one .0))
 
       last-done : seen t p .completes ≡ true
       last-done = done-by-pieces t p ∙ ap nonEmpty (one .0)
 
       packet-is : packetMax ≤ length c → take (heldOf (longer (core .pending) (length body))) (appended Comment (t .carried) body c) ≡ firstPacket (seen t p .packets)
       unfolding seen
-      packet-is room = rw (one .0, one .1) (packet-there (core .pending) c body room last-fits)
+      packet-is room = rw (one .0, one .1) (packet-there (core .pending) c body room (last-fits core c h lacing body sums clear e))
 
       last-found : firstOf (lateChecks R t p (seen t p)) ≡ firstOf (readChecks (firstPacket (seen t p .packets)))
       unfolding firstOf packetChecks timeChecks audioPackets readings
@@ -166,7 +172,7 @@ module _ (core : Core) (tally : Tally) (c : Bytes) (ends sizes kept : List ℕ) 
         is-packet = part ∙ (rw (size, written) (packet-is room))
 
         pub last-accepted : {k : ℕ} → gives k ≡ retold commentCount (readTags b)
-            → FedIs (fedLate core tally m h lacing body) (Accepted (record { core = headerCore core h Audio Nothing (core .streams) (core .preskip); tally = tally }) noCounts) d ends sizes kept
+            → FedIs (fedLate crc core tally m h lacing body) (Accepted (record { core = headerCore core h Audio Nothing (core .streams) (core .preskip); tally = tally }) noCounts) d ends sizes kept
         unfolding fedLate readTags
         last-accepted {k} r =
             accepted R t p (seen t p) (record { core = core; tally = tally }) m inside (firstOf (lateChecks R t p (seen t p))) _ _ d
@@ -174,7 +180,7 @@ module _ (core : Core) (tally : Tally) (c : Bytes) (ends sizes kept : List ℕ) 
             last-next skip-stays (written ∙ last-carry)
 
         pub last-refused : {why : Refusal} → refuses (numberOf why) ≡ retold commentCount (readTags b)
-            → FedIs (fedLate core tally m h lacing body) (Refused why) d ends sizes kept
+            → FedIs (fedLate crc core tally m h lacing body) (Refused why) d ends sizes kept
         unfolding fedLate readTags firstOf
         last-refused {why} r =
             let found = last-found ∙ ap (λ (x : Bytes). firstOf (readChecks x)) (sym is-packet) in
@@ -186,9 +192,6 @@ module _ (core : Core) (tally : Tally) (c : Bytes) (ends sizes kept : List ℕ) 
     module _ (e : shapeOf lacing ≡ GoesOn) where
       all : (whole p ≡ []) × (rest p ≡ some body)
       all = says-earlier p sums e
-
-      pub earlier-fits : Within (core .pending) (length body)
-      earlier-fits = fits (rw (all .0, all .1))
 
       earlier-done : seen t p .completes ≡ false
       earlier-done = done-by-pieces t p ∙ ap nonEmpty (all .0)
@@ -206,8 +209,8 @@ module _ (core : Core) (tally : Tally) (c : Bytes) (ends sizes kept : List ℕ) 
       earlier-next = rw (earlier-done, earlier-left, comment)
 
       pub earlier-accepted : {d : Bytes} → packetMax ≤ length c → d ≡ appended Comment (t .carried) body c
-          → FedIs (fedLate core tally m h lacing body) (Accepted (record { core = headerCore core h Comment (longer (core .pending) (length body)) (core .streams) (core .preskip); tally = tally }) noCounts) d ends sizes kept
+          → FedIs (fedLate crc core tally m h lacing body) (Accepted (record { core = headerCore core h Comment (longer (core .pending) (length body)) (core .streams) (core .preskip); tally = tally }) noCounts) d ends sizes kept
       unfolding fedLate carryAfter
       earlier-accepted {d} room written =
           accepted R t p (seen t p) (record { core = core; tally = tally }) m inside (firstOf (lateChecks R t p (seen t p))) _ _ d earlier-found earlier-next skip-stays
-          (written ∙ rw (comment, all .0, all .1) (carry-earlier (core .pending) c body room earlier-fits))
+          (written ∙ rw (comment, all .0, all .1) (carry-earlier (core .pending) c body room (earlier-fits core c h lacing body sums clear e)))

@@ -14,7 +14,6 @@ use Rattle.refusal.specs.Checks.{firstOf}
 use Rattle.refusal.specs.Numbers.{numberOf}
 use Rattle.refusal.specs.Told.{gives, refuses, decided}
 use Rattle.refusal.proofs.Checks.{no-refusal}
-use Rattle.ogg_crc.specs.Crc.{pageCrc}
 use Rattle.ogg_page.specs.declared.PageHeader.{PageHeader}
 use Rattle.opus_head.specs.declared.Head.{Head}
 use Rattle.opus_head.specs.Fields.{headOf}
@@ -39,7 +38,7 @@ use Rattle.reader.specs.Stages.{lateChecks, fedLate, headerCore, noCount
 use Rattle.reader.proofs.HeaderPages.{says-last}
 use Rattle.reader.proofs.Late.{lateIn, refused-early, refused-late, past-lacing, accepted}
 
-module _ (core : Core) (tally : Tally) (m : Lent) (h : PageHeader) (lacing body : Bytes) (first : core .phase ≡ First) (none-left : core .pending ≡ Nothing) where
+module _ (crc : Bytes → ℕ) (core : Core) (tally : Tally) (m : Lent) (h : PageHeader) (lacing body : Bytes) (first : core .phase ≡ First) (none-left : core .pending ≡ Nothing) where
   abbrev t : State
   t = view core (m .carry)
 
@@ -47,13 +46,13 @@ module _ (core : Core) (tally : Tally) (m : Lent) (h : PageHeader) (lacing body 
   p = pageWith h lacing body
 
   abbrev R : Readings
-  R = readings pageCrc
+  R = readings crc
 
   pub inside : inHeaders (core .phase) ≡ true
   inside = rw first
 
   pub head-early : (n : Refusal) → firstOf (lacingChecks t p (seen t p)) ≡ some n
-      → FedIs (fedLate core tally m h lacing body) (Refused n) (m .carry) (m .ends) (m .sizes) (m .kept)
+      → FedIs (fedLate crc core tally m h lacing body) (Refused n) (m .carry) (m .ends) (m .sizes) (m .kept)
   unfolding fedLate
   head-early n e = refused-early R t p (seen t p) (record { core = core; tally = tally }) m n e
 
@@ -80,7 +79,7 @@ module _ (core : Core) (tally : Tally) (m : Lent) (h : PageHeader) (lacing body 
 
     -- a refusal by 12 or 13
     pub head-refused : (why : Refusal) → readHead body ≡ refuses (numberOf why)
-        → FedIs (fedLate core tally m h lacing body) (Refused why) (m .carry) (m .ends) (m .sizes) (m .kept)
+        → FedIs (fedLate crc core tally m h lacing body) (Refused why) (m .carry) (m .ends) (m .sizes) (m .kept)
     unfolding fedLate readHead firstOf
     head-refused why r =
         refused-late R t p (seen t p) (record { core = core; tally = tally }) m (firstOf (lateChecks R t p (seen t p))) (headOf body) why (m .carry)
@@ -94,7 +93,7 @@ module _ (core : Core) (tally : Tally) (m : Lent) (h : PageHeader) (lacing body 
         by false false k = let z : _≡_ {A = ℕ} 0 1 = cc in absurd (omega arith)
 
     pub head-accepted : (head : Head) → readHead body ≡ gives head
-        → FedIs (fedLate core tally m h lacing body)
+        → FedIs (fedLate crc core tally m h lacing body)
         (Accepted (record { core = headerCore core h Comment Nothing (head .streams) (head .preskip); tally = record { skip = head .preskip } }) noCounts)
         (m .carry) (m .ends) (m .sizes) (m .kept)
     unfolding fedLate readHead

@@ -16,17 +16,18 @@ use Rattle.refusal.specs.Checks.{_when_, firstOf}
 use Rattle.refusal.specs.Numbers.{numberOf}
 use Rattle.refusal.specs.Told.{gives, refuses, decided, numberIn}
 use Rattle.refusal.proofs.Checks.{first-of-append, no-refusal, passed}
-use Rattle.ogg_crc.specs.Crc.{pageCrc}
 use Rattle.ogg_page.specs.declared.PageHeader.{PageHeader}
+use Rattle.ogg_page.specs.declared.PageRead.{PageRead}
+use Rattle.ogg_page.specs.declared.PageRead.the-variants.{Page, Refused as NoPage}
 use Rattle.ogg_page.specs.Page.{headerOf, lacingOf, bodyOf, checksumOf}
-use Rattle.ogg_page.specs.Reading.{isOnePage, readChecks, readPage}
+use Rattle.ogg_page.specs.Reading.{isOnePage, readChecks, readPage, toldRead}
 use Rattle.stream.specs.declared.Phase.{Phase}
 use Rattle.stream.specs.declared.Phase.the-variants.{First, Comment, Audio, Opened, Ended}
 use Rattle.stream.specs.declared.Pending.{Pending}
 use Rattle.stream.specs.declared.Pending.the-variants.{Nothing, Held, Dropped}
 use Rattle.stream.specs.declared.Core.{Core}
 use Rattle.stream.specs.declared.Tally.{Tally}
-use Rattle.stream.specs.Page.{Page, pageOf, continued}
+use Rattle.stream.specs.Page.{Page as Fields, pageOf, continued}
 use Rattle.stream.specs.Readings.{Readings, readings}
 use Rattle.stream.specs.State.{nothing, State, isEnded, unfinished, expectingIn, expecting}
 use Rattle.stream.specs.Packets.{seen}
@@ -37,7 +38,7 @@ use Rattle.page_checks.specs.Checked.{pageWith}
 use Rattle.reader.specs.declared.Fed.{Fed}
 use Rattle.reader.specs.declared.Fed.the-variants.{Refused}
 use Rattle.reader.specs.Answers.{FedIs}
-use Rattle.reader.specs.Stages.{lateChecks, fedFrom, fedLate, fedOn, fedPage, Ready, shortBy}
+use Rattle.reader.specs.Stages.{lateChecks, fedFrom, fedLate, fedOn, fedPage, Ready, shortBy, earlyChecks, ReadOf}
 use Rattle.reader.proofs.Late.{lateIn}
 
 -- ---- what a core that expects a page is
@@ -47,7 +48,7 @@ pending-nothing Nothing c e = refl
 pending-nothing (Held n) c e = let z : _≡_ {A = ℕ} 0 1 = cc in absurd (omega arith)
 pending-nothing Dropped c e = let z : _≡_ {A = ℕ} 0 1 = cc in absurd (omega arith)
 
-pub ready : (core due : Core) (c : Bytes) (p : Page) → isEnded (core .phase) ≡ false → view due c ≡ expecting (view core c) p → Ready (due .phase) (due .pending)
+pub ready : (core due : Core) (c : Bytes) (p : Fields) → isEnded (core .phase) ≡ false → view due c ≡ expecting (view core c) p → Ready (due .phase) (due .pending)
 unfolding expecting
 ready core due c p going e = by (core .phase) refl
   where
@@ -62,7 +63,7 @@ ready core due c p going e = by (core .phase) refl
     by Ended q = absurd (true≢false (rw q at going))
 
 -- a reader that has ended expects nothing else
-still-ended : (s : State) (p : Page) → isEnded (expecting s p .phase) ≡ isEnded (s .phase)
+still-ended : (s : State) (p : Fields) → isEnded (expecting s p .phase) ≡ isEnded (s .phase)
 unfolding expecting
 still-ended s p = by (s .phase) refl
   where
@@ -75,10 +76,7 @@ still-ended s p = by (s .phase) refl
 
 -- ---- 5 to 8
 
-module _ (core due : Core) (tally : Tally) (m : Lent) (t : State) (p : Page) where
-  abbrev R : Readings
-  R = readings pageCrc
-
+module _ (R : Readings) (core due : Core) (tally : Tally) (m : Lent) (t : State) (p : Fields) where
   -- the reader itself is not looked at
   same-core : (v : Option Refusal) → fedBy v R (record { core = core; tally = tally }) m t p (seen t p) ≡ fedBy v R (record { core = due; tally = tally }) m t p (seen t p)
   same-core none = refl
@@ -109,35 +107,48 @@ module _ (core due : Core) (tally : Tally) (m : Lent) (t : State) (p : Page) whe
       rw (first-of-append (fieldChecks t p) (lateChecks R t p (seen t p)), e)
       (record { told = refl; held = rw (sym (ap lateIn e) ∙ fields-early); ended = refl; sized = refl; keeps = refl })
 
-module _ (core due : Core) (tally : Tally) (m : Lent) (b : Bytes) (h : PageHeader) (l body : Bytes) (header : h ≡ headerOf b) (lacing : l ≡ lacingOf b) (rest : body ≡ bodyOf b)
+module _ (crc : Bytes → ℕ) (core due : Core) (tally : Tally) (m : Lent) (b : Bytes) (h : PageHeader) (l body : Bytes) (header : h ≡ headerOf b) (lacing : l ≡ lacingOf b) (rest : body ≡ bodyOf b)
     (expects : view due (m .carry) ≡ expecting (view core (m .carry)) (pageWith h l body)) where
   page-is : pageWith h l body ≡ pageOf b
   unfolding pageOf
   page-is = rw (header, lacing, rest)
 
   pub page-late : {r : Fed} {carry : Bytes} {ends sizes kept : List ℕ} → firstOf (fieldChecks (view due (m .carry)) (pageWith h l body)) ≡ none
-      → FedIs (fedLate due tally m h l body) r carry ends sizes kept → FedIs (fedPage core tally m b) r carry ends sizes kept
+      → FedIs (fedLate crc due tally m h l body) r carry ends sizes kept → FedIs (fedPage crc core tally m b) r carry ends sizes kept
   unfolding fedPage fedLate
   page-late {r} {carry} {ends} {sizes} {kept} e is =
-      rw (← page-is, ← expects, fields-passed core due tally m (view due (m .carry)) (pageWith h l body) e) is
+      rw (← page-is, ← expects, fields-passed (readings crc) core due tally m (view due (m .carry)) (pageWith h l body) e) is
 
   pub page-early : (n : Refusal) → firstOf (fieldChecks (view due (m .carry)) (pageWith h l body)) ≡ some n
-      → FedIs (fedPage core tally m b) (Refused n) (m .carry) (m .ends) (m .sizes) (m .kept)
+      → FedIs (fedPage crc core tally m b) (Refused n) (m .carry) (m .ends) (m .sizes) (m .kept)
   unfolding fedPage
-  page-early n e = rw (← page-is, ← expects) (fields-refused core due tally m (view due (m .carry)) (pageWith h l body) n e)
+  page-early n e = rw (← page-is, ← expects) (fields-refused (readings crc) core due tally m (view due (m .carry)) (pageWith h l body) n e)
 
 -- ---- 1 to 4
 
-pub short-by : (m : Lent) → isShort m ≡ shortBy (length (m .carry)) (length (m .ends)) (length (m .sizes)) (length (m .kept))
+short-by : (m : Lent) → isShort m ≡ shortBy (length (m .carry)) (length (m .ends)) (length (m .sizes)) (length (m .kept))
 unfolding isShort
 short-by m = refl
 
-module _ (r : Known) (m : Lent) (b : Bytes) where
-  abbrev F : Outcome
-  F = feed (readings pageCrc) r m b
+module _ (crc : Bytes → ℕ) (b : Bytes) where
+  module _ (h : PageHeader) (e : readPage crc b ≡ gives h) where
+    none-found : (firstOf (readChecks crc b) ≡ none) × (headerOf b ≡ h)
+    unfolding readPage
+    none-found = no-refusal (firstOf (readChecks crc b)) (headerOf b) h e
 
-  pub no-room : isShort m ≡ true → FedIs F (Refused ShortRoom) (m .carry) (m .ends) (m .sizes) (m .kept)
-  no-room e = rw (feeds-short (readings pageCrc) r m b e) (record { told = refl; held = refl; ended = refl; sized = refl; keeps = refl })
+    clear : (not (isOnePage b) ≡ false) × (firstOf (WrongChecksum when not (eqb (crc b) (checksumOf b)) ∷ []) ≡ none)
+    clear = passed NotOnePage (not (isOnePage b)) _ (none-found .0)
+
+  pub read-of : (read : PageRead) → toldRead read ≡ readPage crc b → ReadOf read b
+  read-of (Page h) e = (not-false (isOnePage b) (clear h (sym e) .0), sym (none-found h (sym e) .1))
+  read-of (NoPage why) e = tt
+
+module _ (crc : Bytes → ℕ) (r : Known) (m : Lent) (b : Bytes) where
+  abbrev F : Outcome
+  F = feed (readings crc) r m b
+
+  no-room : isShort m ≡ true → FedIs F (Refused ShortRoom) (m .carry) (m .ends) (m .sizes) (m .kept)
+  no-room e = rw (feeds-short (readings crc) r m b e) (record { told = refl; held = refl; ended = refl; sized = refl; keeps = refl })
 
   module _ (room : isShort m ≡ false) where
     abbrev s : State
@@ -146,41 +157,49 @@ module _ (r : Known) (m : Lent) (b : Bytes) where
     abbrev t : State
     t = expecting s (pageOf b)
 
-    pub after-end : isEnded (r .core .phase) ≡ true → FedIs F (Refused AfterEnd) (m .carry) (m .ends) (m .sizes) (m .kept)
+    after-end : isEnded (r .core .phase) ≡ true → FedIs F (Refused AfterEnd) (m .carry) (m .ends) (m .sizes) (m .kept)
     unfolding verdict checksOn firstOf carryAfter
     after-end e =
-        rw (feeds (readings pageCrc) r m b room, still-ended s (pageOf b) ∙ e) (record { told = refl; held = refl; ended = refl; sized = refl; keeps = refl })
+        rw (feeds (readings crc) r m b room, still-ended s (pageOf b) ∙ e) (record { told = refl; held = refl; ended = refl; sized = refl; keeps = refl })
 
     module _ (going : isEnded (r .core .phase) ≡ false) where
-      pub not-a-page : (why : Refusal) → refuses (numberOf why) ≡ readPage pageCrc b → FedIs F (Refused why) (m .carry) (m .ends) (m .sizes) (m .kept)
+      pub not-a-page : (why : Refusal) → refuses (numberOf why) ≡ readPage crc b → FedIs F (Refused why) (m .carry) (m .ends) (m .sizes) (m .kept)
       unfolding verdict checksOn firstOf carryAfter readPage readings
       not-a-page why e =
-          rw (feeds (readings pageCrc) r m b room, still-ended s (pageOf b) ∙ going)
-          (by (not (isOnePage b)) (not (eqb (pageCrc b) (checksumOf b))) _ e)
+          rw (feeds (readings crc) r m b room, still-ended s (pageOf b) ∙ going)
+          (by (not (isOnePage b)) (not (eqb (crc b) (checksumOf b))) _ e)
         where
           by : (x y : Bool) (v : Option Refusal) → refuses (numberOf why) ≡ decided (pick x (some NotOnePage) (pick y (some WrongChecksum) none)) (headerOf b)
-              → FedIs (fedBy (pick x (some NotOnePage) (pick y (some WrongChecksum) v)) (readings pageCrc) r m t (pageOf b) (seen t (pageOf b))) (Refused why) (m .carry) (m .ends) (m .sizes) (m .kept)
+              → FedIs (fedBy (pick x (some NotOnePage) (pick y (some WrongChecksum) v)) (readings crc) r m t (pageOf b) (seen t (pageOf b))) (Refused why) (m .carry) (m .ends) (m .sizes) (m .kept)
           by true y v k = record { told = ap refuses (ap numberIn k); held = refl; ended = refl; sized = refl; keeps = refl }
           by false true v k = record { told = ap refuses (ap numberIn k); held = refl; ended = refl; sized = refl; keeps = refl }
           by false false v k = let z : _≡_ {A = ℕ} 0 1 = cc in absurd (omega arith)
 
       -- a page: what is left is 5 to 19
-      module _ (h : PageHeader) (e : readPage pageCrc b ≡ gives h) where
-        none-found : (firstOf (readChecks pageCrc b) ≡ none) × (headerOf b ≡ h)
-        unfolding readPage
-        none-found = no-refusal (firstOf (readChecks pageCrc b)) (headerOf b) h e
+      pub passes-on : (h : PageHeader) → readPage crc b ≡ gives h → {a : Fed} {carry : Bytes} {ends sizes kept : List ℕ}
+          → FedIs (fedPage crc (r .core) (r .tally) m b) a carry ends sizes kept → FedIs F a carry ends sizes kept
+      unfolding verdict checksOn firstOf readings fedPage
+      passes-on h e is =
+          let sealed = passed WrongChecksum (not (eqb (crc b) (checksumOf b))) [] (clear crc b h e .1) in
+          rw (feeds (readings crc) r m b room, still-ended s (pageOf b) ∙ going, clear crc b h e .0, sealed .0) is
 
-        clear : (not (isOnePage b) ≡ false) × (firstOf (WrongChecksum when not (eqb (pageCrc b) (checksumOf b)) ∷ []) ≡ none)
-        clear = passed NotOnePage (not (isOnePage b)) _ (none-found .0)
+-- 1 and 2
+module _ (ph : Phase) (m : Lent) where
+  abbrev found-early : Option Refusal
+  found-early = firstOf (earlyChecks ph (length (m .carry)) (length (m .ends)) (length (m .sizes)) (length (m .kept)))
 
-        pub one-page : isOnePage b ≡ true
-        one-page = not-false (isOnePage b) (clear .0)
+  pub none-early : found-early ≡ none → (isEnded ph ≡ false) × (isShort m ≡ false)
+  none-early e =
+      let first = passed ShortRoom (shortBy (length (m .carry)) (length (m .ends)) (length (m .sizes)) (length (m .kept))) _ e in
+      (passed AfterEnd (isEnded ph) [] (first .1) .0, short-by m ∙ first .0)
 
-        pub its-header : h ≡ headerOf b
-        its-header = sym (none-found .1)
-
-        pub passes-on : {a : Fed} {carry : Bytes} {ends sizes kept : List ℕ} → FedIs (fedPage (r .core) (r .tally) m b) a carry ends sizes kept → FedIs F a carry ends sizes kept
-        unfolding verdict checksOn firstOf readings fedPage
-        passes-on is =
-            let sealed = passed WrongChecksum (not (eqb (pageCrc b) (checksumOf b))) [] (clear .1) in
-            rw (feeds (readings pageCrc) r m b room, still-ended s (pageOf b) ∙ going, clear .0, sealed .0) is
+pub some-early : (crc : Bytes → ℕ) (r : Known) (m : Lent) (b : Bytes) (n : Refusal) → found-early (r .core .phase) m ≡ some n
+    → FedIs (feed (readings crc) r m b) (Refused n) (m .carry) (m .ends) (m .sizes) (m .kept)
+unfolding firstOf
+some-early crc r m b n found = by (isShort m) (isEnded (r .core .phase)) refl refl (rw (short-by m) found)
+  where
+    by : (x y : Bool) → isShort m ≡ x → isEnded (r .core .phase) ≡ y → pick x (some ShortRoom) (pick y (some AfterEnd) none) ≡ some n
+        → FedIs (feed (readings crc) r m b) (Refused n) (m .carry) (m .ends) (m .sizes) (m .kept)
+    by true y p q e = let k : ShortRoom ≡ n = cc in rw (← k) (no-room crc r m b p)
+    by false true p q e = let k : AfterEnd ≡ n = cc in rw (← k) (after-end crc r m b p q)
+    by false false p q e = let z : _≡_ {A = ℕ} 0 1 = cc in absurd (omega arith)

@@ -10,15 +10,18 @@ ghost use Rattle.stream.specs.declared.Pending.the-variants.{Nothing as NoneLef
 ghost use Rattle.stream.specs.declared.Tally.{Tally as Counting};
 ghost use Rattle.stream.specs.State.{isEnded, inHeaders};
 ghost use Rattle.stream.specs.Packets.{packetMax};
+ghost use Rattle.refusal.specs.Checks.{firstOf};
 ghost use Rattle.ogg_crc.specs.Crc.{pageCrc};
+ghost use Rattle.ogg_crc.specs.Table.{entryIn};
+ghost use Rattle.ogg_crc.specs.Sliced.{pageSliced};
 ghost use Rattle.ogg_page.specs.Page.{headerOf};
-ghost use Rattle.ogg_page.specs.Reading.{isOnePage};
+ghost use Rattle.ogg_page.specs.Reading.{isOnePage, readPage, toldRead};
 ghost use Rattle.stream.specs.Readings.{readings};
 ghost use Rattle.stream.specs.Feed.{start as started, openPartWay, carriedIn, appended, view, Lent, isShort, feed as feedBy};
 ghost use Rattle.stream.specs.Feedings.{heldOf};
-ghost use Rattle.page_checks.specs.Checked.{pageWith};
+ghost use Rattle.page_checks.specs.Checked.{found, pageWith};
 ghost use Rattle.reader.specs.Answers.{knownAs, toldOpened, lentOf, FedIs};
-ghost use Rattle.reader.specs.Stages.{fedLate, fedPage, Ready, shortBy, headerCore, noCounts, longer as longerBy, Within, HeaderIs};
+ghost use Rattle.reader.specs.Stages.{fedLate, fedPage, Ready, shortBy, earlyChecks, ReadOf, headerCore, noCounts, longer as longerBy, Within, HeaderIs};
 ghost use Rattle.reader.specs.Numbers.{phaseNumber, pendingNumber, positionNumber, granuleIn, made, StandFor, phaseFrom, pendingFrom, positionFrom, readerFrom, StateOpenedIs, StateFedIs};
 use audio_page::AudioFed;
 use granule::Position;
@@ -204,7 +207,7 @@ fn after_header(
 fn feed_head(core: Core, h: PageHeader, lacing: &[u8], body: &[u8]) -> Fed
     requires { ⌜ (core .phase ≡ InFirst) × (core .pending ≡ NoneLeft) ⌝ }
     requires { ⌜ total (now lacing) ≡ length (now body) ⌝ }
-    ensures { λ r. ⌜ ((m : Lent) (tally : Counting) → FedIs (fedLate core tally m h (now (lacing .entry)) (now (body .entry))) r (m .carry) (m .ends) (m .sizes) (m .kept)) ⌝ }
+    ensures { λ r. ⌜ ((crc : Bytes → ℕ) (m : Lent) (tally : Counting) → FedIs (fedLate crc core tally m h (now (lacing .entry)) (now (body .entry))) r (m .carry) (m .ends) (m .sizes) (m .kept)) ⌝ }
 {
     match header_piece(core, h, lacing) {
         HeaderPiece::Last => {
@@ -279,7 +282,7 @@ fn feed_comment(
 ) -> Fed
     requires { ⌜ core .phase ≡ InComment ⌝ }
     requires { ⌜ (total (now lacing) ≡ length (now body)) × (packetMax ≤ length (now carry)) ⌝ }
-    ensures { λ r. ⌜ ((ends sizes kept : List ℕ) → FedIs (fedLate core tally (lentOf (now (carry .entry)) ends sizes kept) h (now (lacing .entry)) (now (body .entry))) r (now (carry .exit)) ends sizes kept) ⌝ }
+    ensures { λ r. ⌜ ((crc : Bytes → ℕ) (ends sizes kept : List ℕ) → FedIs (fedLate crc core tally (lentOf (now (carry .entry)) ends sizes kept) h (now (lacing .entry)) (now (body .entry))) r (now (carry .exit)) ends sizes kept) ⌝ }
 {
     let pending = core.pending;
     let streams = core.streams;
@@ -330,7 +333,7 @@ fn feed_audio(
     requires { ⌜ core .phase ≡ InAudio ⌝ }
     requires { ⌜ (total (now lacing) ≡ length (now body)) × (length (now lacing) ≤ 255) ⌝ }
     requires { ⌜ isShort (lentOf (now carry) (now ends) (now sizes) (now kept)) ≡ false ⌝ }
-    ensures { λ r. ⌜ FedIs (fedLate core tally (lentOf (now (carry .entry)) (now (ends .entry)) (now (sizes .entry)) (now (kept .entry))) h (now (lacing .entry)) (now (body .entry))) r (now (carry .exit)) (now (ends .exit)) (now (sizes .exit)) (now (kept .exit)) ⌝ }
+    ensures { λ r. ⌜ ((crc : Bytes → ℕ) → FedIs (fedLate crc core tally (lentOf (now (carry .entry)) (now (ends .entry)) (now (sizes .entry)) (now (kept .entry))) h (now (lacing .entry)) (now (body .entry))) r (now (carry .exit)) (now (ends .exit)) (now (sizes .exit)) (now (kept .exit))) ⌝ }
 {
     match audio_page::feed_audio(core, tally, h, lacing, body, carry, ends, sizes, kept) {
         AudioFed::Accepted(core, tally, counts) => Fed::Accepted(Reader { core, tally }, counts),
@@ -353,7 +356,7 @@ fn feed_late(
     requires { ⌜ Ready (core .phase) (core .pending) ⌝ }
     requires { ⌜ (total (now lacing) ≡ length (now body)) × (length (now lacing) ≤ 255) ⌝ }
     requires { ⌜ isShort (lentOf (now carry) (now ends) (now sizes) (now kept)) ≡ false ⌝ }
-    ensures { λ r. ⌜ FedIs (fedLate core tally (lentOf (now (carry .entry)) (now (ends .entry)) (now (sizes .entry)) (now (kept .entry))) h (now (lacing .entry)) (now (body .entry))) r (now (carry .exit)) (now (ends .exit)) (now (sizes .exit)) (now (kept .exit)) ⌝ }
+    ensures { λ r. ⌜ ((crc : Bytes → ℕ) → FedIs (fedLate crc core tally (lentOf (now (carry .entry)) (now (ends .entry)) (now (sizes .entry)) (now (kept .entry))) h (now (lacing .entry)) (now (body .entry))) r (now (carry .exit)) (now (ends .exit)) (now (sizes .exit)) (now (kept .exit))) ⌝ }
 {
     let phase = core.phase;
     match phase {
@@ -379,7 +382,7 @@ fn feed_page(
     requires { ⌜ (isOnePage (now page) ≡ true) × (h ≡ headerOf (now page)) ⌝ }
     requires { ⌜ isEnded (core .phase) ≡ false ⌝ }
     requires { ⌜ isShort (lentOf (now carry) (now ends) (now sizes) (now kept)) ≡ false ⌝ }
-    ensures { λ r. ⌜ FedIs (fedPage core tally (lentOf (now (carry .entry)) (now (ends .entry)) (now (sizes .entry)) (now (kept .entry))) (now (page .entry))) r (now (carry .exit)) (now (ends .exit)) (now (sizes .exit)) (now (kept .exit)) ⌝ }
+    ensures { λ r. ⌜ ((crc : Bytes → ℕ) → FedIs (fedPage crc core tally (lentOf (now (carry .entry)) (now (ends .entry)) (now (sizes .entry)) (now (kept .entry))) (now (page .entry))) r (now (carry .exit)) (now (ends .exit)) (now (sizes .exit)) (now (kept .exit))) ⌝ }
 {
     let due = page_checks::expected(core, h);
     match page_checks::check_fields(due, h) {
@@ -408,6 +411,65 @@ fn is_short(carry: usize, ends: usize, sizes: usize, kept: usize) -> bool
     kept < 255
 }
 
+// 1 and 2, by the lengths of what is lent: no page is read under these.
+fn early(reader: Reader, carry: usize, ends: usize, sizes: usize, kept: usize) -> Checked
+    ensures { λ r. ⌜ found r ≡ firstOf (earlyChecks (reader .core .phase) carry ends sizes kept) ⌝ }
+{
+    if is_short(carry, ends, sizes, kept) {
+        return Checked::Refused(Refusal::ShortRoom);
+    }
+    let core = reader.core;
+    let phase = core.phase;
+    if page_checks::is_ended(phase) {
+        return Checked::Refused(Refusal::AfterEnd);
+    }
+    Checked::Passed
+}
+
+// 3 to 19, of which 3 and 4 are what was read of the page.
+fn feed_read(
+    reader: Reader,
+    read: PageRead,
+    page: &[u8],
+    carry: &mut [u8],
+    ends: &mut [u64],
+    sizes: &mut [u64],
+    kept: &mut [u64],
+) -> Fed
+    requires { ⌜ ReadOf read (now page) ⌝ }
+    requires { ⌜ (isEnded (reader .core .phase) ≡ false) × (isShort (lentOf (now carry) (now ends) (now sizes) (now kept)) ≡ false) ⌝ }
+    ensures { λ r. ⌜ ((crc : Bytes → ℕ) → toldRead read ≡ readPage crc (now (page .entry)) → FedIs (feedBy (readings crc) (knownAs reader) (lentOf (now (carry .entry)) (now (ends .entry)) (now (sizes .entry)) (now (kept .entry))) (now (page .entry))) r (now (carry .exit)) (now (ends .exit)) (now (sizes .exit)) (now (kept .exit))) ⌝ }
+{
+    let core = reader.core;
+    let tally = reader.tally;
+    match read {
+        PageRead::Page(h) => feed_page(core, tally, h, page, carry, ends, sizes, kept),
+        PageRead::Refused(why) => Fed::Refused(why),
+    }
+}
+
+// The same as `feed`, by lent tables: those of `ogg_crc::table::tables` give the checksum, and others what they give. Whoever
+// feeds many small pages makes the tables once.
+pub fn feed_with(
+    tables: &[u32; 4096],
+    reader: Reader,
+    page: &[u8],
+    carry: &mut [u8],
+    ends: &mut [u64],
+    sizes: &mut [u64],
+    kept: &mut [u64],
+) -> Fed
+    ensures { λ r. ⌜ FedIs (feedBy (readings (pageSliced (entryIn (now (tables .entry))))) (knownAs reader) (lentOf (now (carry .entry)) (now (ends .entry)) (now (sizes .entry)) (now (kept .entry))) (now (page .entry))) r (now (carry .exit)) (now (ends .exit)) (now (sizes .exit)) (now (kept .exit)) ⌝ }
+{
+    match early(reader, carry.len(), ends.len(), sizes.len(), kept.len()) {
+        Checked::Passed => {
+            let read = ogg_page::read_page_with(tables, page);
+            feed_read(reader, read, page, carry, ends, sizes, kept)
+        }
+        Checked::Refused(why) => Fed::Refused(why),
+    }
+}
+
 // Feeds one page to a reader: the next reader and the page's own record, or the lowest refusal of 1 to 19, which leaves the
 // reader and the three lists as they were. The carry buffer has to hold, up to the held count, what the last feeding left
 // there. Of an accepted page the lists show the end stamp, the length and the kept count of each packet.
@@ -421,18 +483,12 @@ pub fn feed(
 ) -> Fed
     ensures { λ r. ⌜ FedIs (feedBy (readings pageCrc) (knownAs reader) (lentOf (now (carry .entry)) (now (ends .entry)) (now (sizes .entry)) (now (kept .entry))) (now (page .entry))) r (now (carry .exit)) (now (ends .exit)) (now (sizes .exit)) (now (kept .exit)) ⌝ }
 {
-    if is_short(carry.len(), ends.len(), sizes.len(), kept.len()) {
-        return Fed::Refused(Refusal::ShortRoom);
-    }
-    let core = reader.core;
-    let tally = reader.tally;
-    let phase = core.phase;
-    if page_checks::is_ended(phase) {
-        return Fed::Refused(Refusal::AfterEnd);
-    }
-    match ogg_page::read_page(page) {
-        PageRead::Page(h) => feed_page(core, tally, h, page, carry, ends, sizes, kept),
-        PageRead::Refused(why) => Fed::Refused(why),
+    match early(reader, carry.len(), ends.len(), sizes.len(), kept.len()) {
+        Checked::Passed => {
+            let read = ogg_page::read_page(page);
+            feed_read(reader, read, page, carry, ends, sizes, kept)
+        }
+        Checked::Refused(why) => Fed::Refused(why),
     }
 }
 

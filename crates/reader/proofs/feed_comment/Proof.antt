@@ -1,7 +1,6 @@
 -- `reader::feed_comment` meets its contract: `CommentPage` has its ways. Assumes nothing.
 use mathlib.Core.Path.{_≡_, sym, ap, _∙_}
 use mathlib.Core.Bool.{true}
-use mathlib.Core.List.{[]}
 use borrow.Author.Needs.{needs}
 use denote.Ref.{now}
 use Rattle.opus_tags.specs.Reading.{toldCount}
@@ -28,7 +27,7 @@ longer-requires c κs =
     let a = s .args in
     let b = now (a .body) in
     let is : HeaderIs Last (view (a .core) (now (a .carry))) (pageWith (a .h) (now (a .lacing)) b) = rw (c .enum-told .given .1) at (piece .header-piece .ensures (now (a .carry)) b (s .pre .1 .0)) in
-    last-fits (a .core) (a .tally) (now (a .carry)) [] [] [] (a .h) (now (a .lacing)) b (s .pre .0) (s .pre .1 .0) (is .0) (is .1)
+    last-fits (a .core) (now (a .carry)) (a .h) (now (a .lacing)) b (s .pre .1 .0) (is .0) (is .1)
 
 longer-requires-2 : tie.Need-longer-requires-2
 longer-requires-2 c κs =
@@ -37,11 +36,11 @@ longer-requires-2 c κs =
     let a = s .args in
     let b = now (a .body) in
     let is : HeaderIs Earlier (view (a .core) (now (a .carry))) (pageWith (a .h) (now (a .lacing)) b) = rw (c .enum-told3 .given .1) at (piece .header-piece .ensures (now (a .carry)) b (s .pre .1 .0)) in
-    earlier-fits (a .core) (a .tally) (now (a .carry)) [] [] [] (a .h) (now (a .lacing)) b (s .pre .0) (s .pre .1 .0) (is .0) (is .1 .0)
+    earlier-fits (a .core) (now (a .carry)) (a .h) (now (a .lacing)) b (s .pre .1 .0) (is .0) (is .1 .0)
 
 returns : tie.Need-returns
 returns c =
-    λ ends sizes kept.
+    λ crc ends sizes kept.
     let arm = c .before .before in
     let read = arm .before .before in
     let part = read .before in
@@ -55,14 +54,14 @@ returns c =
     let b = now (a .body) in
     let is : HeaderIs Last (view (a .core) (now (a .carry))) (pageWith (a .h) l b) = rw (left .before .enum-told .given .1) at (piece .header-piece .ensures (now (a .carry)) b (s .pre .1 .0)) in
     rw (c .before .after-header .ensures, c .no-counts .ensures)
-    (last-accepted (a .core) (a .tally) (now (a .carry)) ends sizes kept (a .h) l b (s .pre .0) (s .pre .1 .0) (is .0) (is .1) (s .pre .1 .1)
+    (last-accepted crc (a .core) (a .tally) (now (a .carry)) ends sizes kept (a .h) l b (s .pre .0) (s .pre .1 .0) (is .0) (is .1) (s .pre .1 .1)
     (call .append .ensures)
     (count .held-in .ensures ∙ ap heldOf (left .longer .ensures)) (part .part-of .ensures)
     (sym (ap toldCount (arm .enum-told2 .given .1)) ∙ read .read-tags .ensures))
 
 returns-2 : tie.Need-returns-2
 returns-2 c =
-    λ ends sizes kept.
+    λ crc ends sizes kept.
     let arm = c .before in
     let read = arm .before .before in
     let part = read .before in
@@ -75,14 +74,14 @@ returns-2 c =
     let l = now (a .lacing) in
     let b = now (a .body) in
     let is : HeaderIs Last (view (a .core) (now (a .carry))) (pageWith (a .h) l b) = rw (left .before .enum-told .given .1) at (piece .header-piece .ensures (now (a .carry)) b (s .pre .1 .0)) in
-    last-refused (a .core) (a .tally) (now (a .carry)) ends sizes kept (a .h) l b (s .pre .0) (s .pre .1 .0) (is .0) (is .1) (s .pre .1 .1)
+    last-refused crc (a .core) (a .tally) (now (a .carry)) ends sizes kept (a .h) l b (s .pre .0) (s .pre .1 .0) (is .0) (is .1) (s .pre .1 .1)
     (call .append .ensures)
     (count .held-in .ensures ∙ ap heldOf (left .longer .ensures)) (part .part-of .ensures)
     (sym (ap toldCount (arm .why .given .1)) ∙ read .read-tags .ensures)
 
 returns-3 : tie.Need-returns-3
 returns-3 c =
-    λ ends sizes kept.
+    λ crc ends sizes kept.
     let call = c .before .before .before .before in
     let left = call .before .before in
     let piece = left .before .before .before in
@@ -92,11 +91,11 @@ returns-3 c =
     let b = now (a .body) in
     let is : HeaderIs Earlier (view (a .core) (now (a .carry))) (pageWith (a .h) l b) = rw (left .before .enum-told3 .given .1) at (piece .header-piece .ensures (now (a .carry)) b (s .pre .1 .0)) in
     rw (c .before .after-header2 .ensures, c .no-counts2 .ensures, left .longer2 .ensures)
-    (earlier-accepted (a .core) (a .tally) (now (a .carry)) ends sizes kept (a .h) l b (s .pre .0) (s .pre .1 .0) (is .0) (is .1 .0) (s .pre .1 .1) (call .append2 .ensures))
+    (earlier-accepted crc (a .core) (a .tally) (now (a .carry)) ends sizes kept (a .h) l b (s .pre .0) (s .pre .1 .0) (is .0) (is .1 .0) (s .pre .1 .1) (call .append2 .ensures))
 
 returns-4 : tie.Need-returns-4
 returns-4 c =
-    λ ends sizes kept.
+    λ crc ends sizes kept.
     let arm = c .before in
     let piece = arm .before .before in
     let s = piece .before .before .before .before in
@@ -104,7 +103,7 @@ returns-4 c =
     let l = now (a .lacing) in
     let b = now (a .body) in
     let is : HeaderIs (Refused (arm .why2 .given .0 .0)) (view (a .core) (now (a .carry))) (pageWith (a .h) l b) = rw (arm .why2 .given .1) at (piece .header-piece .ensures (now (a .carry)) b (s .pre .1 .0)) in
-    comment-early (a .core) (a .tally) (now (a .carry)) ends sizes kept (a .h) l b (s .pre .0) (arm .why2 .given .0 .0) is
+    comment-early crc (a .core) (a .tally) (now (a .carry)) ends sizes kept (a .h) l b (s .pre .0) (arm .why2 .given .0 .0) is
 
 pub feed-comment-spec : {M : Type 1} → statement M
 feed-comment-spec =

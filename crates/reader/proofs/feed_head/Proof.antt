@@ -16,7 +16,7 @@ use Rattle.reader.proofs.feed_head.Tie as tie
 
 returns : tie.Need-returns
 returns c =
-    λ m tally.
+    λ crc m tally.
     let verdict = c .before .before in
     let read = verdict .before .before .before in
     let piece = read .before .before .before in
@@ -26,12 +26,12 @@ returns c =
     let b = now (a .body) in
     let is : HeaderIs Last (view (a .core) (m .carry)) (pageWith (a .h) l b) = rw (read .before .enum-told .given .1) at (piece .header-piece .ensures (m .carry) b (s .pre .1)) in
     rw (c .before .after-header .ensures, c .no-counts .ensures)
-    (head-accepted (a .core) tally m (a .h) l b (s .pre .0 .0) (s .pre .0 .1) (s .pre .1) (is .1) (is .0) (read .read-head .result .head)
+    (head-accepted crc (a .core) tally m (a .h) l b (s .pre .0 .0) (s .pre .0 .1) (s .pre .1) (is .1) (is .0) (read .read-head .result .head)
     (sym (read .read-head .ensures .told) ∙ ap (λ (v : Verdict). toldBy v (read .read-head .result .head)) (verdict .enum-told2 .given .1)))
 
 returns-2 : tie.Need-returns-2
 returns-2 c =
-    λ m tally.
+    λ crc m tally.
     let verdict = c .before in
     let read = verdict .before .before .before in
     let piece = read .before .before .before in
@@ -40,12 +40,12 @@ returns-2 c =
     let l = now (a .lacing) in
     let b = now (a .body) in
     let is : HeaderIs Last (view (a .core) (m .carry)) (pageWith (a .h) l b) = rw (read .before .enum-told .given .1) at (piece .header-piece .ensures (m .carry) b (s .pre .1)) in
-    head-refused (a .core) tally m (a .h) l b (s .pre .0 .0) (s .pre .0 .1) (s .pre .1) (is .1) (is .0) (verdict .verdict .given .0 .0)
+    head-refused crc (a .core) tally m (a .h) l b (s .pre .0 .0) (s .pre .0 .1) (s .pre .1) (is .1) (is .0) (verdict .verdict .given .0 .0)
     (sym (read .read-head .ensures .told) ∙ ap (λ (v : Verdict). toldBy v (read .read-head .result .head)) (verdict .verdict .given .1))
 
 returns-3 : tie.Need-returns-3
 returns-3 c =
-    λ m tally.
+    λ crc m tally.
     let piece = c .before .before in
     let s = piece .before .before .before in
     let a = s .args in
@@ -56,7 +56,7 @@ returns-3 c =
 
 returns-4 : tie.Need-returns-4
 returns-4 c =
-    λ m tally.
+    λ crc m tally.
     let arm = c .before in
     let piece = arm .before .before in
     let s = piece .before .before .before in
@@ -64,7 +64,7 @@ returns-4 c =
     let l = now (a .lacing) in
     let b = now (a .body) in
     let is : HeaderIs (Refused (arm .why .given .0 .0)) (view (a .core) (m .carry)) (pageWith (a .h) l b) = rw (arm .why .given .1) at (piece .header-piece .ensures (m .carry) b (s .pre .1)) in
-    head-early (a .core) tally m (a .h) l b (s .pre .0 .0) (s .pre .0 .1) (arm .why .given .0 .0) is
+    head-early crc (a .core) tally m (a .h) l b (s .pre .0 .0) (s .pre .0 .1) (arm .why .given .0 .0) is
 
 header-piece-requires : tie.Need-header-piece-requires
 header-piece-requires c κs =

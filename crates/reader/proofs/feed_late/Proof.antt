@@ -26,14 +26,16 @@ feed-comment-requires c κs =
 
 returns : tie.Need-returns
 returns c =
+    λ crc.
     let a = c .before .before .before .before .before .before .before .before .before .args in
-    c .feed-head .ensures (lentOf (now (a .carry)) (now (a .ends)) (now (a .sizes)) (now (a .kept))) (a .tally)
+    c .feed-head .ensures crc (lentOf (now (a .carry)) (now (a .ends)) (now (a .sizes)) (now (a .kept))) (a .tally)
 
 returns-2 : tie.Need-returns-2
 returns-2 c =
+    λ crc.
     let call = c .before .before in
     let a = call .before .before .before .before .before .before .before .before .before .before .args in
-    call .feed-comment .ensures (now (a .ends)) (now (a .sizes)) (now (a .kept))
+    call .feed-comment .ensures crc (now (a .ends)) (now (a .sizes)) (now (a .kept))
 
 returns-4 : tie.Need-returns-4
 returns-4 c =

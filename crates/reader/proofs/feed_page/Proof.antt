@@ -31,6 +31,7 @@ feed-late-requires c κs =
 
 returns : tie.Need-returns
 returns c =
+    λ crc.
     let call = c .before .before .before .before .before .before .before .before in
     let b = call .before .before .before .before .before in
     let l = b .before in
@@ -40,19 +41,20 @@ returns c =
     let a = s .args in
     let lacing = now (l .lacing-of .result) in
     let body = now (b .body-of .result) in
-    page-late (a .core) (due .expected .result) (a .tally) (lentOf (now (a .carry)) (now (a .ends)) (now (a .sizes)) (now (a .kept))) (now (a .page)) (a .h) lacing body
+    page-late crc (a .core) (due .expected .result) (a .tally) (lentOf (now (a .carry)) (now (a .ends)) (now (a .sizes)) (now (a .kept))) (now (a .page)) (a .h) lacing body
     (s .pre .0 .1) (l .lacing-of .ensures) (b .body-of .ensures) (due .expected .ensures (now (a .carry)) lacing body)
-    (sym (checked .check-fields .ensures (now (a .carry)) lacing body) ∙ ap found (l .before .enum-told .given .1)) (call .feed-late .ensures)
+    (sym (checked .check-fields .ensures (now (a .carry)) lacing body) ∙ ap found (l .before .enum-told .given .1)) (call .feed-late .ensures crc)
 
 returns-2 : tie.Need-returns-2
 returns-2 c =
+    λ crc.
     let arm = c .before in
     let checked = arm .before .before in
     let due = checked .before in
     let s = due .before .before .before .before .before .before in
     let a = s .args in
     let page = now (a .page) in
-    page-early (a .core) (due .expected .result) (a .tally) (lentOf (now (a .carry)) (now (a .ends)) (now (a .sizes)) (now (a .kept))) page (a .h) (lacingOf page) (bodyOf page)
+    page-early crc (a .core) (due .expected .result) (a .tally) (lentOf (now (a .carry)) (now (a .ends)) (now (a .sizes)) (now (a .kept))) page (a .h) (lacingOf page) (bodyOf page)
     (s .pre .0 .1) refl refl (due .expected .ensures (now (a .carry)) (lacingOf page) (bodyOf page)) (arm .why .given .0 .0)
     (sym (checked .check-fields .ensures (now (a .carry)) (lacingOf page) (bodyOf page)) ∙ ap found (arm .why .given .1))
 
