@@ -1,0 +1,5 @@
+mod Ends
+mod Turns
+mod Feeding
+mod Checksums
+pub mod Enough
