@@ -1,9 +1,9 @@
 -- The demands hold: the theorems of the crates, with the real readings. Assumes nothing.
 use Rattle.ogg_crc.specs.Crc.{pageCrc}
-use Rattle.ogg_page.proofs.RoundTrip as oggPage
-use Rattle.opus_head.proofs.RoundTrip as opusHead
-use Rattle.opus_tags.proofs.RoundTrip as opusTags
+use Rattle.page_writer.proofs.RoundTrip as pageWriter
+use Rattle.head_writer.proofs.RoundTrip as headWriter
 use Rattle.opus_tags.proofs.Together.{parts-together}
+use Rattle.tags_writer.proofs.RoundTrip as tagsWriter
 use Rattle.opus_packet.proofs.Legal.{legal-lengths}
 use Rattle.stream.proofs.Step.{refusal-keeps}
 use Rattle.stream.proofs.Lists.{accepted-shows}
@@ -19,11 +19,11 @@ demand-one = record { refused = refusal-keeps R; accepted = accepted-shows R }
 
 pub demand-two : Demand2
 demand-two = record {
-  pages = oggPage.reads-back;
-  pagesAgain = oggPage.writes-back;
-  heads = opusHead.reads-back;
-  headsAgain = opusHead.writes-back;
-  tags = opusTags.reads-back;
+  pages = pageWriter.reads-back;
+  pagesAgain = pageWriter.writes-back;
+  heads = headWriter.reads-back;
+  headsAgain = headWriter.writes-back;
+  tags = tagsWriter.reads-back;
   tagsAgain = parts-together;
   packets = legal-lengths;
   reading = readings-agree pageCrc;

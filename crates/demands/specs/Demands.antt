@@ -7,9 +7,10 @@ use lib.ListN.{length, drop}
 use Rattle.octets.specs.Octets.{Bytes, Octets}
 use Rattle.refusal.specs.Told.{gives, refuses}
 use Rattle.ogg_crc.specs.Crc.{pageCrc}
-use Rattle.ogg_page.specs.Statements as oggPage
-use Rattle.opus_head.specs.Statements as opusHead
+use Rattle.page_writer.specs.Statements as pageWriter
+use Rattle.head_writer.specs.Statements as headWriter
 use Rattle.opus_tags.specs.Statements as opusTags
+use Rattle.tags_writer.specs.Statements as tagsWriter
 use Rattle.opus_packet.specs.Statements as opusPacket
 use Rattle.stream.specs.Page.{pageOf, continued}
 use Rattle.stream.specs.Readings.{Readings, readings}
@@ -38,11 +39,11 @@ pub record Demand1 : Type 0 where
 -- Demand 2. What the writers write reads back as the same fields; what was read is written back as the same bytes; feeding
 -- reads by the same rules as reading alone; legal packets are those of RFC 6716, and the cases on paper come out.
 pub record Demand2 : Type 0 where
-  pub pages : oggPage.ReadsBack
-  pub pagesAgain : oggPage.WritesBack
-  pub heads : opusHead.ReadsBack
-  pub headsAgain : opusHead.WritesBack
-  pub tags : opusTags.ReadsBack
+  pub pages : pageWriter.ReadsBack
+  pub pagesAgain : pageWriter.WritesBack
+  pub heads : headWriter.ReadsBack
+  pub headsAgain : headWriter.WritesBack
+  pub tags : tagsWriter.ReadsBack
   pub tagsAgain : opusTags.PartsTogether
   pub packets : opusPacket.LegalLengths
   pub reading : Agree pageCrc

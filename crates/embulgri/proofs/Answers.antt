@@ -19,20 +19,20 @@ use Rattle.ogg_page.specs.declared.PageRead.{PageRead}
 use Rattle.ogg_page.specs.declared.PageRead.the-variants.{Page, Refused as NoPage}
 use Rattle.ogg_page.specs.Page.{lacingOf, bodyOf}
 use Rattle.ogg_page.specs.Reading.{readPage, toldRead}
-use Rattle.ogg_page.specs.declared.PageWritten.{PageWritten}
-use Rattle.ogg_page.specs.declared.PageWritten.the-variants.{Bytes as PageBytes, Refused as PageRefused}
-use Rattle.ogg_page.specs.Writing.{writeChecks, writeTold as pageTold, writeOut as pageOut, toldWritten as toldPage, Wrote as WrotePage}
+use Rattle.page_writer.specs.declared.PageWritten.{PageWritten}
+use Rattle.page_writer.specs.declared.PageWritten.the-variants.{Bytes as PageBytes, Refused as PageRefused}
+use Rattle.page_writer.specs.Writing.{writeChecks, writeTold as pageTold, writeOut as pageOut, toldWritten as toldPage, Wrote as WrotePage}
 use Rattle.opus_head.specs.declared.Head.{Head}
 use Rattle.opus_head.specs.declared.HeadRead.{HeadRead}
 use Rattle.opus_head.specs.declared.Verdict.{Verdict}
 use Rattle.opus_head.specs.declared.Verdict.the-variants.{Right, Refused}
 use Rattle.opus_head.specs.Reading.{readHead, toldBy, HeadIs}
-use Rattle.opus_head.specs.declared.HeadWritten.{HeadWritten}
-use Rattle.opus_head.specs.declared.HeadWritten.the-variants.{Bytes as HeadBytes, Refused as HeadRefused}
-use Rattle.opus_head.specs.Writing.{toldWritten as toldHead, Wrote as WroteHead}
-use Rattle.opus_tags.specs.declared.TagsWritten.{TagsWritten}
-use Rattle.opus_tags.specs.declared.TagsWritten.the-variants.{Bytes as TagsBytes, Refused as TagsRefused}
-use Rattle.opus_tags.specs.Writing.{toldWritten as toldTags, Wrote as WroteTags}
+use Rattle.head_writer.specs.declared.HeadWritten.{HeadWritten}
+use Rattle.head_writer.specs.declared.HeadWritten.the-variants.{Bytes as HeadBytes, Refused as HeadRefused}
+use Rattle.head_writer.specs.Writing.{toldWritten as toldHead, Wrote as WroteHead}
+use Rattle.tags_writer.specs.declared.TagsWritten.{TagsWritten}
+use Rattle.tags_writer.specs.declared.TagsWritten.the-variants.{Bytes as TagsBytes, Refused as TagsRefused}
+use Rattle.tags_writer.specs.Writing.{toldWritten as toldTags, Wrote as WroteTags}
 use Rattle.embulgri.specs.Answers.{Answered, Wrote, pageNumbers, PageIn, PageOut, headNumbers, fitting, headFrom, HeadIn, headTold, headOut, HeadLaid, TagsOut}
 
 -- a call with one output, by what the code's answer tells

@@ -15,14 +15,14 @@ use Rattle.ogg_crc.specs.Crc.{pageCrc}
 use Rattle.ogg_page.specs.declared.PageHeader.{PageHeader}
 use Rattle.ogg_page.specs.Page.{lacingOf, bodyOf}
 use Rattle.ogg_page.specs.Reading.{readPage}
-use Rattle.ogg_page.specs.Writing.{writeTold, writeOut}
+use Rattle.page_writer.specs.Writing.{writeTold, writeOut}
 use Rattle.opus_packet.specs.Streams.{readPacket}
 use Rattle.opus_head.specs.declared.Head.{Head}
 use Rattle.opus_head.specs.Reading.{readHead}
-use Rattle.opus_head.specs.Writing as headWriting
+use Rattle.head_writer.specs.Writing as headWriting
 use Rattle.opus_tags.specs.declared.Part.{Part}
 use Rattle.opus_tags.specs.Reading.{readTags, commentCount, findVendor, findComment, readGain}
-use Rattle.opus_tags.specs.Writing as tagsWriting
+use Rattle.tags_writer.specs.Writing as tagsWriting
 use Rattle.old_clock.specs.declared.Clock.{Clock}
 use Rattle.old_clock.specs.Clock.{addLength}
 

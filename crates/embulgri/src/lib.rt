@@ -8,23 +8,23 @@ ghost use Rattle.reader.specs.Answers.{lentOf};
 ghost use Rattle.reader.specs.Numbers.{numbersOf};
 ghost use Rattle.embulgri.specs.Answers.{PageIn, PageOut, PacketIn, HeadIn, HeadLaid, headNumbers, fitting, headFrom, TagsIn, PartIn, VendorIn, CommentIn, GainIn, TagsOut, ClockAfter};
 ghost use Rattle.embulgri.specs.Feeding.{OpenedIn, pageRecord, FedIn};
+use head_writer::HeadWritten;
 use ogg_page::PageHeader;
 use ogg_page::PageRead;
-use ogg_page::PageWritten;
 use old_clock::Added;
 use old_clock::Clock;
 use opus_comment::GainRead;
 use opus_head::Head;
-use opus_head::HeadWritten;
 use opus_head::Verdict;
 use opus_packet::PacketRead;
 use opus_tags::PartRead;
 use opus_tags::TagsRead;
-use opus_tags::TagsWritten;
+use page_writer::PageWritten;
 use reader::StateFed;
 use reader::StateOpened;
 use refusal::Refusal;
 use stream::Counts;
+use tags_writer::TagsWritten;
 
 #[no_mangle]
 pub extern "C" fn embulgri_checksum(bytes: &[u8]) -> u32
@@ -79,7 +79,7 @@ pub extern "C" fn embulgri_page_write(
         serial,
         sequence,
     };
-    let wrote = ogg_page::write_page(h, lacing, body, out);
+    let wrote = page_writer::write_page(h, lacing, body, out);
     match wrote {
         PageWritten::Bytes(n) => {
             *written = n as u64;
@@ -191,7 +191,7 @@ pub extern "C" fn embulgri_head_write(
         return refusal::number(Refusal::UnfitFields) as u32;
     }
     let head = head_from(fields, mapping);
-    let wrote = opus_head::write_head(head, out);
+    let wrote = head_writer::write_head(head, out);
     match wrote {
         HeadWritten::Bytes(n) => {
             *written = n as u64;
@@ -248,7 +248,7 @@ pub extern "C" fn embulgri_tags_comment(packet: &[u8], i: u64, part: &mut [u64; 
 pub extern "C" fn embulgri_tags_gain(packet: &[u8], i: u64, gain: &mut u64) -> u32
     ensures { λ r. ⌜ GainIn (now (packet .entry)) i r (now (gain .entry)) (now (gain .exit)) ⌝ }
 {
-    let read = opus_tags::gain(packet, i as usize);
+    let read = tags_parts::gain(packet, i as usize);
     match read {
         GainRead::Gain(g) => {
             *gain = octets::unsigned16(g) as u64;
@@ -268,7 +268,7 @@ pub extern "C" fn embulgri_tags_write(
 ) -> u32
     ensures { λ r. ⌜ TagsOut (now (vendor .entry)) (now (text .entry)) (now (lengths .entry)) r (now (out .entry)) (now (out .exit)) (now (written .entry)) (now (written .exit)) ⌝ }
 {
-    let wrote = opus_tags::write_tags(vendor, text, lengths, out);
+    let wrote = tags_writer::write_tags(vendor, text, lengths, out);
     match wrote {
         TagsWritten::Bytes(n) => {
             *written = n as u64;

@@ -6,7 +6,7 @@ ghost use lib.ListN.{getD, take, drop};
 ghost use mir.Syntax.{w16};
 ghost use mir.Val.{toZ, ofZ};
 ghost use Rattle.octets.specs.Octets.{begins, copied};
-ghost use Rattle.octets.specs.Numbers.{number, octets};
+ghost use Rattle.octets.specs.Numbers.{number};
 
 pub fn least(a: usize, b: usize) -> usize
     ensures { λ r. ⌜ r ≡ min a b ⌝ }
@@ -125,60 +125,4 @@ pub fn unsigned16(g: i16) -> u16
     }
     let y = (-1 - g) as u16;
     65535 - y
-}
-
-// The eight bytes of a number, lowest first.
-pub fn octets64(x: u64) -> [u8; 8]
-    ensures { λ r. ⌜ r ≡ octets 8 x ⌝ }
-{
-    let a = x / 256;
-    let b = a / 256;
-    let c = b / 256;
-    let d = c / 256;
-    let e = d / 256;
-    let f = e / 256;
-    let g = f / 256;
-    [
-        (x % 256) as u8,
-        (a % 256) as u8,
-        (b % 256) as u8,
-        (c % 256) as u8,
-        (d % 256) as u8,
-        (e % 256) as u8,
-        (f % 256) as u8,
-        (g % 256) as u8,
-    ]
-}
-
-// The lowest n bytes of x into d from place `at` on, or nothing where they do not fit.
-fn put_number(d: &mut [u8], at: usize, n: usize, x: u64)
-    requires { ⌜ n ≤ 8 ⌝ }
-    ensures { λ _. ⌜ now (d .exit) ≡ copied (now (d .entry)) at (octets n x) ⌝ }
-{
-    let b = octets64(x);
-    copy_at(d, at, &b[..n]);
-}
-
-pub fn put8(d: &mut [u8], at: usize, x: u8)
-    ensures { λ _. ⌜ now (d .exit) ≡ copied (now (d .entry)) at (octets 1 x) ⌝ }
-{
-    put_number(d, at, 1, x as u64)
-}
-
-pub fn put16(d: &mut [u8], at: usize, x: u16)
-    ensures { λ _. ⌜ now (d .exit) ≡ copied (now (d .entry)) at (octets 2 x) ⌝ }
-{
-    put_number(d, at, 2, x as u64)
-}
-
-pub fn put32(d: &mut [u8], at: usize, x: u32)
-    ensures { λ _. ⌜ now (d .exit) ≡ copied (now (d .entry)) at (octets 4 x) ⌝ }
-{
-    put_number(d, at, 4, x as u64)
-}
-
-pub fn put64(d: &mut [u8], at: usize, x: u64)
-    ensures { λ _. ⌜ now (d .exit) ≡ copied (now (d .entry)) at (octets 8 x) ⌝ }
-{
-    put_number(d, at, 8, x)
 }

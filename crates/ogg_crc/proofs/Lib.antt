@@ -1,7 +1,4 @@
-pub mod Xor
-pub mod Linear
 pub mod Register
 pub mod Slice
 pub mod Turns
-pub mod Entries
 pub mod Page

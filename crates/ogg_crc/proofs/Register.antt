@@ -1,24 +1,18 @@
--- The register over bits and bytes: more of them, how wide it is, and what is xored into it. Assumes nothing.
+-- The register over bytes: more of them, how wide it is, and what is xored into it. Assumes nothing.
 use mathlib.Core.Path.{_≡_, refl, sym, ap, _∙_}
 use mathlib.Core.List.{[], _∷_}
-use Prim.Native.Nat.{ℕ, zero, suc, _+_, _*_, _^_, _<_}
-use native.Mathlib.Nat.{zero-add, suc-add}
+use Prim.Native.Nat.{ℕ, suc, _*_, _^_, _<_}
 use native.Mathlib.Omega.{arith}
 use lib.Dec.{lit<}
 use lib.Bits.{bitXor, xor-comm, xor-lt}
 use lib.ListN.{length}
 use Rattle.octets.specs.Octets.{Bytes, Octets}
 use Rattle.octets.proofs.Parts.{octets-tail}
-use Rattle.ogg_crc.specs.Crc.{bit, bits, byte, crc}
+use Rattle.crc_tables.specs.Register.{bits, byte}
+use Rattle.crc_tables.proofs.Xor.{xor-assoc}
+use Rattle.crc_tables.proofs.Linear.{bits-xor, bits-lt, bits-add, byte-lt}
+use Rattle.ogg_crc.specs.Crc.{crc}
 use Rattle.ogg_crc.specs.Statements.{CrcAppend, CrcFits}
-use Rattle.ogg_crc.proofs.Xor.{xor-assoc}
-use Rattle.ogg_crc.proofs.Linear.{bits-xor, bits-lt, byte-lt}
-
--- m bits and then n
-pub bits-add : (m n r : ℕ) → bits (m + n) r ≡ bits n (bits m r)
-unfolding bits
-bits-add zero n r = rw zero-add
-bits-add (suc m) n r = rw suc-add (bits-add m n (bit r))
 
 -- a byte and then n bytes
 pub bits-byte : (n r : ℕ) → bits (8 * n) (bits 8 r) ≡ bits (8 * suc n) r

@@ -13,11 +13,12 @@ use lib.ListN.{length, take, drop, length-take, length-drop, take-append-drop}
 use Rattle.octets.specs.Octets.{Bytes, Octets}
 use Rattle.octets.specs.Pick.{pick}
 use Rattle.octets.proofs.Parts.{octets-tail, octets-drop, octets-take}
-use Rattle.ogg_crc.specs.Crc.{bits, crc}
+use Rattle.crc_tables.specs.Register.{bits}
+use Rattle.crc_tables.specs.Table.{Right}
+use Rattle.crc_tables.proofs.Linear.{bits-lt, byte-step}
+use Rattle.ogg_crc.specs.Crc.{crc}
 use Rattle.ogg_crc.specs.Sliced.{blockOf, size, blocks, sliced}
 use Rattle.ogg_crc.specs.Statements.{SlicedRight}
-use Rattle.ogg_crc.specs.Table.{Right}
-use Rattle.ogg_crc.proofs.Linear.{bits-lt, byte-step}
 use Rattle.ogg_crc.proofs.Register.{bits-byte, crc-append, crc-lt, crc-xor}
 
 -- the byte b, with the bytes of s to follow

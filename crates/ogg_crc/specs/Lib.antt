@@ -1,4 +1,3 @@
 pub mod Crc
 pub mod Sliced
-pub mod Table
 pub mod Statements

@@ -1,5 +1,5 @@
 -- What slicing by sixteen makes of bytes, whatever the entries are: e j b is what a byte b in the register's top, followed
--- by j bytes of its block, adds to the register. With the right entries (Table.antt) the value is the checksum
+-- by j bytes of its block, adds to the register. With the right entries (`crc_tables`) the value is the checksum
 -- (Statements.antt). Assumes nothing.
 use Prim.Native.Nat.{ℕ, zero, suc, _*_, _-_, _/_, _%_, _^_}
 use mathlib.Core.List.{[], _∷_}

@@ -5,9 +5,9 @@ use mathlib.Core.List.{_++_}
 use Prim.Native.Nat.{ℕ, _≤_, _<_, _^_}
 use lib.ListN.{length, take, drop}
 use Rattle.octets.specs.Octets.{Bytes, Octets}
+use Rattle.crc_tables.specs.Table.{Right}
 use Rattle.ogg_crc.specs.Crc.{crc, blank, pageCrc}
 use Rattle.ogg_crc.specs.Sliced.{sliced, pageSliced}
-use Rattle.ogg_crc.specs.Table.{Right}
 
 -- the bytes of two lists one after the other (Register)
 abbrev pub CrcAppend : Type 0

@@ -1,17 +1,15 @@
 // The checksum of an Ogg page (RFC 3533): polynomial 0x04c11db7, high bit first, start 0, no final change.
 // Defined bit by bit in specs/Crc.antt; computed here sixteen bytes a turn, by sixteen tables (specs/Sliced.antt).
-// The functions whose names end in `_with` take the tables from the caller, who makes them once by `table::tables`; the
-// others make them at each call, and for short inputs tables of half bytes, which take longer to use but less to store.
+// The functions whose names end in `_with` take the tables from the caller, who makes them once by
+// `crc_tables::table::tables`; the others make them at each call, and for short inputs tables of half bytes, which take
+// longer to use but less to store.
 ghost use mathlib.Core.Path.{_≡_};
 ghost use Prim.Native.Nat.{_+_, _/_, _≤_, _<_, _^_};
 ghost use lib.Bits.{bitXor};
 ghost use lib.ListN.{length, take, drop, getD};
+ghost use Rattle.crc_tables.specs.Table.{entryIn, halfEntryIn};
 ghost use Rattle.ogg_crc.specs.Crc.{crc, pageCrc};
-ghost use Rattle.ogg_crc.specs.Table.{entryIn, halfEntryIn};
 ghost use Rattle.ogg_crc.specs.Sliced.{moved, blockOf, sliced, pageSliced};
-
-mod halves;
-pub mod table;
 
 // Up to this length the tables of half bytes take less time, by measurement.
 const SHORT: usize = 640;
@@ -138,7 +136,7 @@ fn half_update(halves: &[u32; 512], r: u32, s: &[u8]) -> u32
     x
 }
 
-// What the tables make of the bytes of s: with those of `table::tables` their checksum.
+// What the tables make of the bytes of s: with those of `crc_tables::table::tables` their checksum.
 pub fn checksum_with(tables: &[u32; 4096], s: &[u8]) -> u32
     ensures { λ x. ⌜ x ≡ sliced (entryIn (now (tables .entry))) 0 (now (s .entry)) ⌝ }
 {
@@ -149,14 +147,14 @@ pub fn checksum_with(tables: &[u32; 4096], s: &[u8]) -> u32
 fn long_checksum(s: &[u8]) -> u32
     ensures { λ x. ⌜ x ≡ crc 0 (now (s .entry)) ⌝ }
 {
-    let tables = table::tables();
+    let tables = crc_tables::table::tables();
     update(&tables, 0, s)
 }
 
 fn short_checksum(s: &[u8]) -> u32
     ensures { λ x. ⌜ x ≡ crc 0 (now (s .entry)) ⌝ }
 {
-    let halves = halves::halves();
+    let halves = crc_tables::halves::halves();
     half_update(&halves, 0, s)
 }
 
@@ -186,14 +184,14 @@ pub fn page_checksum_with(tables: &[u32; 4096], page: &[u8]) -> u32
 fn long_page_checksum(page: &[u8]) -> u32
     ensures { λ x. ⌜ x ≡ pageCrc (now (page .entry)) ⌝ }
 {
-    let tables = table::tables();
+    let tables = crc_tables::table::tables();
     page_checksum_with(&tables, page)
 }
 
 fn short_page_checksum(page: &[u8]) -> u32
     ensures { λ x. ⌜ x ≡ pageCrc (now (page .entry)) ⌝ }
 {
-    let halves = halves::halves();
+    let halves = crc_tables::halves::halves();
     let zeros = [0u8; 4];
     let a = octets::least(FIELD, page.len());
     let b = octets::least(FIELD_END, page.len());

@@ -1,5 +1,5 @@
 -- Reading a page by lent tables is reading it, where the tables are right. Assumes nothing.
-use Rattle.ogg_crc.specs.Table.{entryIn}
+use Rattle.crc_tables.specs.Table.{entryIn}
 use Rattle.ogg_crc.proofs.Page.{page-sliced-right}
 use Rattle.ogg_page.specs.Reading.{readPage}
 use Rattle.ogg_page.specs.Statements.{LentReads}

@@ -1,8 +1,4 @@
 pub mod Reading
 pub mod Extents
-pub mod Writing
-pub mod Pieces
-pub mod Cover
-pub mod Written
-pub mod RoundTrip
+pub mod Whole
 pub mod Lent

@@ -1,13 +1,11 @@
 -- The pieces of a lacing list: a value of 255 goes on, a smaller one ends a packet (RFC 3533, 5 and 6; document 01,
 -- "Page and lacing"). Assumes nothing.
-use Prim.Native.Nat.{ℕ, _+_, _-_}
-use mathlib.Core.Path.{_≡_}
-use mathlib.Core.List.{List, [], _∷_, _++_}
+use Prim.Native.Nat.{ℕ, _+_}
+use mathlib.Core.List.{List, [], _∷_}
 use lib.Dec.{ltb}
-use lib.ListN.{length, take, drop, replicate}
+use lib.ListN.{take, drop}
 use Rattle.octets.specs.Pick.{pick}
 use Rattle.octets.specs.Octets.{Bytes}
-use Rattle.ogg_page.specs.declared.lacing.Pieces.{Pieces}
 
 -- the lengths of the packets that end here, in order; n bytes belong to values already read, all of them 255
 unfoldable pub endedFrom : ℕ → Bytes → List ℕ
@@ -24,13 +22,6 @@ ended l = endedFrom 0 l
 
 abbrev pub unfinished : Bytes → ℕ
 unfinished l = unfinishedFrom 0 l
-
--- the answer for a lacing list: places past the number of packets are zero. A page has at most 255 values; of a longer
--- list the first 255 count
-pub record PiecesAre (r : Pieces) (l : Bytes) : Type 0 where
-  pub count : r .count ≡ length (ended (take 255 l))
-  pub lengths : r .lengths ≡ ended (take 255 l) ++ replicate (255 - length (ended (take 255 l))) 0
-  pub unfinished : r .unfinished ≡ unfinished (take 255 l)
 
 -- ---- the body cut by the lacing values
 

@@ -2,5 +2,4 @@ pub mod Page
 pub mod Extent
 pub mod Lacing
 pub mod Reading
-pub mod Writing
 pub mod Statements

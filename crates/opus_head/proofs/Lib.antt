@@ -1,7 +1,5 @@
-pub mod Checks
-pub mod Places
-pub mod Laying
 pub mod Answers
+pub mod Checks
 pub mod Mapping
-pub mod HeaderBytes
-pub mod RoundTrip
+pub mod Places
+pub mod ReadRight

@@ -1,5 +1,4 @@
 pub mod Fields
 pub mod Right
 pub mod Reading
-pub mod Writing
 pub mod Statements

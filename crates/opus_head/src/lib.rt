@@ -1,12 +1,9 @@
-// The identification header of an Ogg Opus stream (RFC 7845, 5.1): reading and writing.
+// The identification header of an Ogg Opus stream (RFC 7845, 5.1): reading, and which fields are right.
 ghost use mathlib.Core.Path.{_≡_};
 ghost use Prim.Native.Nat.{_≤_};
-ghost use lib.ListN.{length};
-ghost use Rattle.octets.specs.Octets.{copied};
 ghost use Rattle.opus_head.specs.Fields.{streamsOf, coupledOf, indicesOf, places, headOf};
 ghost use Rattle.opus_head.specs.Right.{tableLength, allowedChannels, rightStreams, rightIndices, allZero, rightPlain, rightMapping, rightHead};
 ghost use Rattle.opus_head.specs.Reading.{isHead, noHead, HeadIs};
-ghost use Rattle.opus_head.specs.Writing.{startOf, headBytes, headSize, Wrote};
 use refusal::Refusal;
 
 // The fields of a header. Of the mapping's 255 places one for each channel is used, and the others are zero.
@@ -31,11 +28,6 @@ pub enum Verdict {
 pub struct HeadRead {
     pub verdict: Verdict,
     pub head: Head,
-}
-
-pub enum HeadWritten {
-    Bytes(usize),
-    Refused(Refusal),
 }
 
 // How many channels a family allows: families 0, 1 and 255 are known.
@@ -212,7 +204,7 @@ fn head_of(b: &[u8]) -> Head
 }
 
 // How long the table is: two counts and an index for each channel, but none in family 0.
-fn table_length(family: u8, channels: u8) -> usize
+pub fn table_length(family: u8, channels: u8) -> usize
     ensures { λ r. ⌜ (r ≡ tableLength family channels) × (r ≤ 257) ⌝ }
 {
     if family == 0 {
@@ -274,67 +266,4 @@ pub fn read_head(b: &[u8]) -> HeadRead
         verdict: Verdict::Right,
         head,
     }
-}
-
-// The 19 bytes before the table.
-fn start_of(h: Head) -> [u8; 19]
-    ensures { λ r. ⌜ r ≡ startOf h ⌝ }
-{
-    let gain = h.gain;
-    let p = octets::octets64(h.preskip as u64);
-    let r = octets::octets64(h.rate as u64);
-    let g = octets::octets64(octets::unsigned16(gain) as u64);
-    [
-        0x4f,
-        0x70,
-        0x75,
-        0x73,
-        0x48,
-        0x65,
-        0x61,
-        0x64,
-        h.version,
-        h.channels,
-        p[0],
-        p[1],
-        r[0],
-        r[1],
-        r[2],
-        r[3],
-        g[0],
-        g[1],
-        h.family,
-    ]
-}
-
-// A header of right fields, into an output with room for it.
-fn put_head(h: Head, out: &mut [u8])
-    requires { ⌜ headSize h ≤ length (now out) ⌝ }
-    ensures { λ _. ⌜ now (out .exit) ≡ copied (now (out .entry)) 0 (headBytes h) ⌝ }
-{
-    let start = start_of(h);
-    octets::copy_at(out, 0, &start);
-    if h.family != 0 {
-        let mapping = h.mapping;
-        let channels = octets::wide(h.channels);
-        octets::put8(out, 19, h.streams);
-        octets::put8(out, 20, h.coupled);
-        octets::copy_at(out, 21, &mapping[..channels]);
-    }
-}
-
-// The header of these fields, written to the start of `out`. 23: fields that a reading would refuse, or an unused place of
-// the mapping that is not zero. 22: `out` is shorter than the header. On refusal nothing is written.
-pub fn write_head(h: Head, out: &mut [u8]) -> HeadWritten
-    ensures { λ r. ⌜ Wrote h (now (out .entry)) r (now (out .exit)) ⌝ }
-{
-    if !right_head(h) {
-        return HeadWritten::Refused(Refusal::UnfitFields);
-    }
-    let size = 19 + table_length(h.family, h.channels);
-    if out.len() < size {
-        return HeadWritten::Refused(Refusal::ShortOutput);
-    }
-    put_head(h, out);
-    HeadWritten::Bytes(size)
 }

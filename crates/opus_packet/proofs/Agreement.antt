@@ -9,12 +9,13 @@ use lib.Dec.{ltb, eqb}
 use lib.ListN.{length, getD, drop}
 use Rattle.octets.specs.Pick.{pick}
 use Rattle.octets.specs.Octets.{Bytes}
+use Rattle.opus_frames.specs.Frames.{frameSamples, Read, short, value}
+use Rattle.opus_frames.specs.Packet.{Parsed, breaks, frames, parse}
+use Rattle.opus_frames.specs.Code.{outline}
 use Rattle.opus_packet.specs.declared.Measure.{Measure}
 use Rattle.opus_packet.specs.declared.Measure.the-variants.{Illegal, Samples}
-use Rattle.opus_packet.specs.Frames.{frameSamples, Read, short, value}
-use Rattle.opus_packet.specs.Packet.{Parsed, breaks, frames, parse}
 use Rattle.opus_packet.specs.Streams.{samplesOf, Measured, illegal, measured, withFirst, lastOf, firstAnd, lengthsOf, allAre}
-use Rattle.opus_packet.specs.Code.{outline, lengthIn, toldMeasure, EndsIn, notLegal, notSame, same, agreed, joined}
+use Rattle.opus_packet.specs.Code.{lengthIn, toldMeasure, EndsIn, notLegal, notSame, same, agreed, joined}
 
 -- ---- one packet: from the number of its frames to its length
 

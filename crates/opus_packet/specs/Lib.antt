@@ -1,5 +1,3 @@
-pub mod Frames
-pub mod Packet
 pub mod Streams
 pub mod Code
 pub mod Statements

@@ -6,7 +6,7 @@ use mathlib.Core.List.{List}
 use lib.ListN.{length}
 use Rattle.octets.specs.Octets.{Bytes}
 use Rattle.refusal.specs.Told.{gives}
-use Rattle.opus_packet.specs.Packet.{frames, parse}
+use Rattle.opus_frames.specs.Packet.{frames, parse}
 use Rattle.opus_packet.specs.Streams.{samplesOf, readPacket}
 
 -- a length in samples that a packet can have

@@ -4,9 +4,5 @@ pub mod Walking
 pub mod Counting
 pub mod Checking
 pub mod Finding
-pub mod Lengths
-pub mod Laying
-pub mod Taking
 pub mod Places
 pub mod Together
-pub mod RoundTrip

@@ -1,12 +1,12 @@
--- What the private functions answer, in the code's words: comments one after the other, with the gains that were seen so far.
+-- What the functions of the walk answer, in the code's words: comments one after the other, with the gains that were seen so far.
 -- Assumes nothing.
 use Prim.Native.Nat.{ℕ, zero, suc}
 use mathlib.Core.Bool.{Bool, true, false, not, _&&_, _||_}
 use mathlib.Core.List.{List, [], _∷_}
-use lib.Dec.{leb, eqb}
+use lib.Dec.{leb}
 use lib.ListN.{length}
 use Rattle.octets.specs.Pick.{pick}
-use Rattle.octets.specs.Octets.{Bytes, begins, total}
+use Rattle.octets.specs.Octets.{Bytes, begins}
 use Rattle.utf8.specs.Characters.{utf8}
 use Rattle.opus_comment.specs.Names.{rightComment, isNamed}
 use Rattle.opus_tags.specs.declared.Gains.{Gains}
@@ -14,8 +14,7 @@ use Rattle.opus_tags.specs.declared.Gains.the-variants.{Wrong as WrongCo
 use Rattle.opus_tags.specs.declared.Walk.{Walk}
 use Rattle.opus_tags.specs.declared.Walk.the-variants.{Wrong, At}
 use Rattle.opus_tags.specs.Layout.{signature, partAt, nextPlace, fitsAt, bytesOf, vendorPart, firstPlace}
-use Rattle.opus_tags.specs.Right.{trackGain, albumGain, rightTags}
-use Rattle.opus_tags.specs.Writing.{cutBy, given, packetOf}
+use Rattle.opus_tags.specs.Right.{trackGain, albumGain}
 
 -- the comment c is right, and no gain that was seen before
 abbrev pub goesOn : Bytes → Bool → Bool → Bool
@@ -60,14 +59,3 @@ isRight (At at track album) = true
 abbrev pub placeIn : Walk → ℕ
 placeIn Wrong = 0
 placeIn (At at track album) = at
-
--- ---- writing
-
--- the lengths sum to the text, and the comments are right
-unfoldable pub rightLengths : Bytes → List ℕ → Bool
-rightLengths text ns = eqb (total ns) (length text) && rightFrom false false (cutBy ns text)
-
--- a packet of these fields is one that the writer takes
-unfoldable pub rightFields : Bytes → Bytes → List ℕ → Bool
-rightFields vendor text ns =
-    eqb (total ns) (length text) && (leb (length (packetOf vendor text ns)) 61440 && rightTags (given vendor text ns))

@@ -1,6 +1,6 @@
 pub mod Layout
 pub mod Right
 pub mod Reading
-pub mod Writing
+pub mod Packet
 pub mod Code
 pub mod Statements

@@ -1,20 +1,14 @@
 -- What is proved of comment headers, beside the contracts. Assumes nothing.
 use Prim.Native.Nat.{ℕ, suc, _+_, _<_, _≤_}
 use mathlib.Core.Path.{_≡_}
-use mathlib.Core.List.{List, []}
-use lib.ListN.{length, getD, take}
+use mathlib.Core.List.{[]}
+use lib.ListN.{length, getD}
 use Rattle.octets.specs.Octets.{Bytes, Octets}
 use Rattle.refusal.specs.Told.{gives}
 use Rattle.opus_tags.specs.declared.Part.{Part}
 use Rattle.opus_tags.specs.Layout.{Tags, bytesOf, vendorPart, commentPlace}
 use Rattle.opus_tags.specs.Reading.{readTags, commentCount, commentPart, findComment, findText}
-use Rattle.opus_tags.specs.Writing.{tagsBytes, given, writeTold, writeOut}
-
--- reading what was written gives the same vendor and comments, and no trailing bytes
-abbrev pub ReadsBack : Type 0
-ReadsBack =
-    (vendor text : Bytes) (ns : List ℕ) (out : Bytes) (n : ℕ) → writeTold vendor text ns out ≡ gives n
-    → readTags (take n (writeOut vendor text ns out)) ≡ gives (given vendor text ns)
+use Rattle.opus_tags.specs.Packet.{tagsBytes}
 
 -- the bytes of a packet that was read are its parts put together again
 abbrev pub PartsTogether : Type 0

@@ -1,16 +1,10 @@
-// The comment header of an Ogg Opus stream (RFC 7845, 5.2): reading, asking for its parts, and writing.
+// The comment header of an Ogg Opus stream (RFC 7845, 5.2): reading, and where its parts lie.
 ghost use mathlib.Core.Path.{_≡_};
-ghost use Prim.Native.Nat.{_+_, _*_, _≤_};
-ghost use lib.ListN.{length};
-ghost use Rattle.octets.specs.Octets.{total, copied};
-ghost use Rattle.refusal.specs.Told.{retold, numberIn};
-ghost use Rattle.opus_comment.specs.Gain.{toldGain};
+ghost use Rattle.refusal.specs.Told.{retold};
 ghost use Rattle.opus_tags.specs.Layout.{fitsAt, countOf, firstPlace};
 ghost use Rattle.opus_tags.specs.Right.{isTags};
-ghost use Rattle.opus_tags.specs.Reading.{readTags, commentCount, findVendor, findComment, findText, partIn, readGain, toldCount, toldPart};
-ghost use Rattle.opus_tags.specs.Writing.{textBytes, commentsBytes, cutBy, packetOf, Wrote};
-ghost use Rattle.opus_tags.specs.Code.{judged, stepped, walked, begun, isRight, placeIn, rightLengths, rightFields};
-use opus_comment::GainRead;
+ghost use Rattle.opus_tags.specs.Reading.{readTags, commentCount, findVendor, findComment, findText, toldCount, toldPart};
+ghost use Rattle.opus_tags.specs.Code.{judged, stepped, walked, begun, isRight, placeIn};
 use refusal::Refusal;
 
 // A part of a packet: where it starts, and how many bytes it has.
@@ -29,13 +23,8 @@ pub enum PartRead {
     Refused(Refusal),
 }
 
-pub enum TagsWritten {
-    Bytes(usize),
-    Refused(Refusal),
-}
-
 // Which of the two gains were seen, up to a comment.
-enum Gains {
+pub enum Gains {
     Wrong,
     Seen(bool, bool),
 }
@@ -47,7 +36,7 @@ enum Walk {
 }
 
 // One comment more. A gain may stand in one comment only.
-fn judge(c: &[u8], track: bool, album: bool) -> Gains
+pub fn judge(c: &[u8], track: bool, album: bool) -> Gains
     ensures { λ r. ⌜ r ≡ judged (now (c .entry)) track album ⌝ }
 {
     if !opus_comment::right_comment(c) {
@@ -232,154 +221,4 @@ pub fn find_comment(b: &[u8], i: usize) -> PartRead
         return PartRead::Refused(Refusal::NoSuchComment);
     }
     find_text(b, place_in(here))
-}
-
-// The part that was found, or an empty one.
-fn part_in(b: &[u8], found: PartRead) -> &[u8]
-    ensures { λ r. ⌜ now r ≡ partIn (now (b .entry)) (toldPart found) ⌝ }
-{
-    match found {
-        PartRead::Found(p) => octets::part_of(b, p.start, p.size),
-        PartRead::Refused(_) => octets::part_of(b, 0, 0),
-    }
-}
-
-// The vendor, empty where `read_tags` refuses.
-pub fn vendor(b: &[u8]) -> &[u8]
-    ensures { λ r. ⌜ now r ≡ partIn (now (b .entry)) (findVendor (now (b .entry))) ⌝ }
-{
-    part_in(b, find_vendor(b))
-}
-
-// Comment i, empty where `comment_number` is not 0.
-pub fn comment(b: &[u8], i: usize) -> &[u8]
-    ensures { λ r. ⌜ now r ≡ partIn (now (b .entry)) (findComment (now (b .entry)) i) ⌝ }
-{
-    part_in(b, find_comment(b, i))
-}
-
-// The number by which comment i is refused: 14, then 20; 0 for none.
-pub fn comment_number(b: &[u8], i: usize) -> u8
-    ensures { λ r. ⌜ r ≡ numberIn (findComment (now (b .entry)) i) ⌝ }
-{
-    match find_comment(b, i) {
-        PartRead::Found(_) => 0,
-        PartRead::Refused(why) => refusal::number(why),
-    }
-}
-
-// The gain in comment i, whatever its name. 14, then 20, then 21: its value is no gain.
-pub fn gain(b: &[u8], i: usize) -> GainRead
-    ensures { λ r. ⌜ toldGain r ≡ readGain (now (b .entry)) i ⌝ }
-{
-    match find_comment(b, i) {
-        PartRead::Found(p) => opus_comment::comment_gain(octets::part_of(b, p.start, p.size)),
-        PartRead::Refused(why) => GainRead::Refused(why),
-    }
-}
-
-// Whether the lengths sum to the text, without a sum that could wrap, and the comments are right.
-fn right_lengths(text: &[u8], lengths: &[u64]) -> bool
-    ensures { λ r. ⌜ r ≡ rightLengths (now (text .entry)) (now (lengths .entry)) ⌝ }
-{
-    let mut at = 0;
-    let mut track = false;
-    let mut album = false;
-    let mut i = 0;
-    while i < lengths.len() {
-        let size = lengths[i] as usize;
-        if text.len() - at < size {
-            return false;
-        }
-        let Gains::Seen(t, a) = judge(octets::part_of(text, at, size), track, album) else {
-            return false;
-        };
-        at += size;
-        track = t;
-        album = a;
-        i += 1;
-    }
-    at == text.len()
-}
-
-// Whether a packet of these fields is one that reading takes, of at most 61,440 bytes.
-fn right_fields(vendor: &[u8], text: &[u8], lengths: &[u64]) -> bool
-    ensures { λ r. ⌜ r ≡ rightFields (now (vendor .entry)) (now (text .entry)) (now (lengths .entry)) ⌝ }
-{
-    if vendor.len() > 61440 {
-        return false;
-    }
-    if text.len() > 61440 {
-        return false;
-    }
-    if lengths.len() > 61440 {
-        return false;
-    }
-    if 16 + vendor.len() + text.len() + 4 * lengths.len() > 61440 {
-        return false;
-    }
-    if !utf8::is_utf8(vendor) {
-        return false;
-    }
-    right_lengths(text, lengths)
-}
-
-// A text behind its length, into an output with room for it.
-fn put_text(out: &mut [u8], at: usize, t: &[u8])
-    requires { ⌜ at + 4 + length (now t) ≤ length (now out) ⌝ }
-    requires { ⌜ length (now t) ≤ 61440 ⌝ }
-    ensures { λ _. ⌜ now (out .exit) ≡ copied (now (out .entry)) at (textBytes (now (t .entry))) ⌝ }
-{
-    octets::put32(out, at, t.len() as u32);
-    octets::copy_at(out, at + 4, t);
-}
-
-// The comments one after the other, into an output with room for them.
-fn put_comments(out: &mut [u8], start: usize, text: &[u8], lengths: &[u64])
-    requires { ⌜ total (now lengths) ≡ length (now text) ⌝ }
-    requires { ⌜ length (now text) ≤ 61440 ⌝ }
-    requires { ⌜ start + 4 * length (now lengths) + length (now text) ≤ length (now out) ⌝ }
-    ensures { λ _. ⌜ now (out .exit) ≡ copied (now (out .entry)) start (commentsBytes (cutBy (now (lengths .entry)) (now (text .entry)))) ⌝ }
-{
-    let mut at = start;
-    let mut from = 0;
-    let mut i = 0;
-    while i < lengths.len() {
-        let size = lengths[i] as usize;
-        put_text(out, at, octets::part_of(text, from, size));
-        at += 4 + size;
-        from += size;
-        i += 1;
-    }
-}
-
-// A packet of right fields, into an output with room for it.
-fn put_tags(vendor: &[u8], text: &[u8], lengths: &[u64], out: &mut [u8])
-    requires { ⌜ total (now lengths) ≡ length (now text) ⌝ }
-    requires { ⌜ 16 + length (now vendor) + length (now text) + 4 * length (now lengths) ≤ 61440 ⌝ }
-    requires { ⌜ 16 + length (now vendor) + length (now text) + 4 * length (now lengths) ≤ length (now out) ⌝ }
-    ensures { λ _. ⌜ now (out .exit) ≡ copied (now (out .entry)) 0 (packetOf (now (vendor .entry)) (now (text .entry)) (now (lengths .entry))) ⌝ }
-{
-    octets::copy_at(out, 0, b"OpusTags");
-    put_text(out, 8, vendor);
-    let at = 12 + vendor.len();
-    octets::put32(out, at, lengths.len() as u32);
-    put_comments(out, at + 4, text, lengths);
-}
-
-// The comment header of a vendor and of comments that stand joined in `text`, written to the start of `out`. 23: the lengths
-// do not sum to the text, the packet would be longer than 61,440 bytes, or reading would refuse it. 22: `out` is shorter than
-// the packet. On refusal nothing is written.
-pub fn write_tags(vendor: &[u8], text: &[u8], lengths: &[u64], out: &mut [u8]) -> TagsWritten
-    ensures { λ r. ⌜ Wrote (now (vendor .entry)) (now (text .entry)) (now (lengths .entry)) (now (out .entry)) r (now (out .exit)) ⌝ }
-{
-    if !right_fields(vendor, text, lengths) {
-        return TagsWritten::Refused(Refusal::UnfitFields);
-    }
-    let size = 16 + vendor.len() + text.len() + 4 * lengths.len();
-    if out.len() < size {
-        return TagsWritten::Refused(Refusal::ShortOutput);
-    }
-    put_tags(vendor, text, lengths, out);
-    TagsWritten::Bytes(size)
 }

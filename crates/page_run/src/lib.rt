@@ -5,7 +5,7 @@ ghost use Prim.Native.Nat.{_-_, _≤_};
 ghost use lib.Dec.{ltb};
 ghost use lib.ListN.{length};
 ghost use Rattle.ogg_crc.specs.Crc.{pageCrc};
-ghost use Rattle.ogg_crc.specs.Table.{entryIn};
+ghost use Rattle.crc_tables.specs.Table.{entryIn};
 ghost use Rattle.ogg_crc.specs.Sliced.{pageSliced};
 ghost use Rattle.stream.specs.Readings.{readings};
 ghost use Rattle.reader.specs.Answers.{knownAs, lentOf};
@@ -182,6 +182,6 @@ pub fn feed_pages(
 ) -> PagesFed
     ensures { λ r. ⌜ toldRun r (lentOf (now (carry .exit)) (now (ends .exit)) (now (sizes .exit)) (now (kept .exit))) ≡ feedPages (readings pageCrc) (knownAs reader) (lentOf (now (carry .entry)) (now (ends .entry)) (now (sizes .entry)) (now (kept .entry))) (now (buffer .entry)) ⌝ }
 {
-    let tables = ogg_crc::table::tables();
+    let tables = crc_tables::table::tables();
     run(&tables, reader, buffer, carry, ends, sizes, kept)
 }

@@ -12,7 +12,7 @@ ghost use Rattle.stream.specs.State.{isEnded, inHeaders};
 ghost use Rattle.stream.specs.Packets.{packetMax};
 ghost use Rattle.refusal.specs.Checks.{firstOf};
 ghost use Rattle.ogg_crc.specs.Crc.{pageCrc};
-ghost use Rattle.ogg_crc.specs.Table.{entryIn};
+ghost use Rattle.crc_tables.specs.Table.{entryIn};
 ghost use Rattle.ogg_crc.specs.Sliced.{pageSliced};
 ghost use Rattle.ogg_page.specs.Page.{headerOf};
 ghost use Rattle.ogg_page.specs.Reading.{isOnePage, readPage, toldRead};
@@ -448,7 +448,7 @@ fn feed_read(
     }
 }
 
-// The same as `feed`, by lent tables: those of `ogg_crc::table::tables` give the checksum, and others what they give. Whoever
+// The same as `feed`, by lent tables: those of `crc_tables::table::tables` give the checksum, and others what they give. Whoever
 // feeds many small pages makes the tables once.
 pub fn feed_with(
     tables: &[u32; 4096],

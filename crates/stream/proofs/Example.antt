@@ -20,17 +20,17 @@ use Rattle.ogg_page.specs.declared.PageHeader.{PageHeader}
 use Rattle.ogg_page.specs.Page.{hasCapture, headerOf, checksumOf}
 use Rattle.ogg_page.specs.Lacing.{endedFrom, unfinishedFrom, cutFrom}
 use Rattle.ogg_page.specs.Reading.{isOnePage, readChecks, readPage}
-use Rattle.ogg_page.specs.Writing.{pageSize, writeTold}
-use Rattle.ogg_page.specs.Statements.{Fit, ReadsAs}
-use Rattle.ogg_page.proofs.RoundTrip.{reads-back}
+use Rattle.page_writer.specs.Writing.{pageSize, writeTold}
+use Rattle.page_writer.specs.Statements.{Fit, ReadsAs}
+use Rattle.page_writer.proofs.RoundTrip.{reads-back}
 use Rattle.opus_head.specs.Fields.{streamsOf, coupledOf, indicesOf, places, headOf as fieldsOf}
 use Rattle.opus_head.specs.Right.{allowedChannels, rightIndices, rightStreams, rightMapping}
 use Rattle.opus_head.specs.Reading.{isHead}
 use Rattle.utf8.specs.Characters.{utf8From, utf8}
 use Rattle.opus_tags.specs.Layout.{fitsAt, allFit, textsFrom, placeAfter, isLaidOut, tagsOf}
 use Rattle.opus_tags.specs.Right.{allRight, occurrences, rightComments, rightTags, isTags}
-use Rattle.opus_packet.specs.Frames.{configSamples, frameSamples, coded, codedTimes, paddingFrom}
-use Rattle.opus_packet.specs.Packet.{countedShape, shapeOf, parse}
+use Rattle.opus_frames.specs.Frames.{configSamples, frameSamples, coded, codedTimes, paddingFrom}
+use Rattle.opus_frames.specs.Packet.{countedShape, shapeOf, parse}
 use Rattle.opus_packet.specs.Streams.{lengthsOf as packetLengths, allAre}
 use Rattle.granule.specs.declared.Position.{Position}
 use Rattle.granule.specs.declared.Position.the-variants.{Unset, Joined, At}

@@ -13,11 +13,11 @@ use Rattle.octets.specs.Numbers.{value, octets, number}
 use Rattle.refusal.specs.declared.Refusal.{Refusal}
 use Rattle.refusal.specs.Told.{gives}
 use Rattle.ogg_crc.specs.Crc.{pageCrc}
-use Rattle.ogg_page.specs.Writing.{startOf}
+use Rattle.page_writer.specs.Writing.{startOf}
 use Rattle.opus_head.specs.declared.Head.{Head}
 use Rattle.opus_head.specs.Fields.{streamsOf, headOf as fieldsOf}
-use Rattle.opus_packet.specs.Frames.{configSamples, frameSamples, coded, codedTimes, paddingFrom}
-use Rattle.opus_packet.specs.Packet.{countedShape, shapeOf, parse}
+use Rattle.opus_frames.specs.Frames.{configSamples, frameSamples, coded, codedTimes, paddingFrom}
+use Rattle.opus_frames.specs.Packet.{countedShape, shapeOf, parse}
 use Rattle.opus_packet.specs.Streams.{lengthsOf as packetLengths}
 use Rattle.granule.specs.Samples.{tally}
 use Rattle.granule.specs.Judging.{from}

@@ -21,7 +21,7 @@ use Rattle.opus_head.specs.declared.Head.{Head}
 use Rattle.opus_head.specs.Fields.{headOf as fieldsOf}
 use Rattle.opus_head.specs.Right.{rightHead, rightMapping}
 use Rattle.opus_head.specs.Reading.{isHead, readHead}
-use Rattle.opus_head.proofs.RoundTrip.{read-is-right}
+use Rattle.opus_head.proofs.ReadRight.{read-is-right}
 use Rattle.opus_tags.specs.Reading.{readTags}
 use Rattle.opus_packet.specs.Streams.{lengthsOf, isIllegal, isMixed, firstLength, readPacket}
 use Rattle.stream.specs.Page.{Page, pageOf, wholeFrom, whole, rest}

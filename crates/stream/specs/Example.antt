@@ -10,7 +10,7 @@ use Rattle.octets.specs.Octets.{Bytes, Octets}
 use Rattle.refusal.specs.Told.{gives, refuses}
 use Rattle.ogg_crc.specs.Crc.{pageCrc}
 use Rattle.ogg_page.specs.declared.PageHeader.{PageHeader}
-use Rattle.ogg_page.specs.Writing.{pageSize, writeOut}
+use Rattle.page_writer.specs.Writing.{pageSize, writeOut}
 use Rattle.granule.specs.declared.Position.the-variants.{At}
 use Rattle.stream.specs.declared.Phase.the-variants.{Audio}
 use Rattle.stream.specs.declared.Pending.the-variants.{Held}

@@ -2,7 +2,7 @@
 use Prim.Native.Nat.{_-_}
 use native.Mathlib.Omega.{arith}
 use borrow.Author.Needs.{needs}
-use Rattle.ogg_crc.specs.Table.{entryIn}
+use Rattle.crc_tables.specs.Table.{entryIn}
 use Rattle.ogg_crc.proofs.Turns.{Block, block-starts, block-turn, block-ends}
 use Rattle.ogg_crc.proofs.block.Statement.{statement}
 use Rattle.ogg_crc.proofs.block.Tie as tie

@@ -1,7 +1,7 @@
 -- `ogg_crc::entry` meets its contract: it is what the definition looks up. Assumes nothing.
 use mathlib.Core.Path.{refl}
 use borrow.Author.Needs.{needs}
-use Rattle.ogg_crc.specs.Table.{entryIn}
+use Rattle.crc_tables.specs.Table.{entryIn}
 use Rattle.ogg_crc.proofs.entry.Statement.{statement}
 use Rattle.ogg_crc.proofs.entry.Tie as tie
 

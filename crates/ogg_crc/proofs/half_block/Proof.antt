@@ -3,7 +3,7 @@ use mathlib.Core.Path.{_≡_}
 use Prim.Native.Nat.{_-_, _≤_}
 use native.Mathlib.Omega.{arith}
 use borrow.Author.Needs.{needs}
-use Rattle.ogg_crc.specs.Table.{halfEntryIn}
+use Rattle.crc_tables.specs.Table.{halfEntryIn}
 use Rattle.ogg_crc.proofs.Turns.{Block, block-starts, block-turn, block-ends}
 use Rattle.ogg_crc.proofs.half_block.Statement.{statement}
 use Rattle.ogg_crc.proofs.half_block.Tie as tie

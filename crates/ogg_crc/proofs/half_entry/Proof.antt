@@ -1,7 +1,7 @@
 -- `ogg_crc::half_entry` meets its contract: it is what the definition looks up. Assumes nothing.
 use mathlib.Core.Path.{refl}
 use borrow.Author.Needs.{needs}
-use Rattle.ogg_crc.specs.Table.{halfEntryIn}
+use Rattle.crc_tables.specs.Table.{halfEntryIn}
 use Rattle.ogg_crc.proofs.half_entry.Statement.{statement}
 use Rattle.ogg_crc.proofs.half_entry.Tie as tie
 

@@ -2,7 +2,7 @@
 use Prim.Native.Nat.{_-_}
 use native.Mathlib.Omega.{arith}
 use lib.ListN.{length}
-use Rattle.ogg_crc.specs.Table.{entryIn}
+use Rattle.crc_tables.specs.Table.{entryIn}
 use Rattle.ogg_crc.proofs.Turns.{Left, left-starts, left-16, left-4, left-1, left-ends}
 use Rattle.ogg_crc.proofs.update.Statement.{statement}
 use Rattle.ogg_crc.proofs.update.Tie as tie

@@ -3,7 +3,7 @@ use mathlib.Core.Path.{sym, ap, _∙_}
 use borrow.Author.Needs.{needs}
 use denote.Ref.{now}
 use Rattle.refusal.specs.Told.{gives}
-use Rattle.ogg_crc.specs.Table.{entryIn}
+use Rattle.crc_tables.specs.Table.{entryIn}
 use Rattle.ogg_crc.specs.Sliced.{pageSliced}
 use Rattle.octets.proofs.Tests.{agrees, differs, failed, held}
 use Rattle.ogg_page.proofs.Reading.{not-one-page, wrong-checksum, right-page}

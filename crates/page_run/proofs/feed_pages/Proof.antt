@@ -5,7 +5,7 @@ use borrow.Author.Needs.{needs}
 use denote.Ref.{now}
 use Rattle.octets.specs.Octets.{Bytes, Octets}
 use Rattle.ogg_crc.specs.Crc.{pageCrc}
-use Rattle.ogg_crc.specs.Table.{entryIn}
+use Rattle.crc_tables.specs.Table.{entryIn}
 use Rattle.ogg_crc.specs.Sliced.{pageSliced}
 use Rattle.ogg_crc.proofs.Page.{page-sliced-right}
 use Rattle.reader.specs.Answers.{knownAs, lentOf}

@@ -6,7 +6,7 @@ use borrow.Author.Needs.{needs}
 use denote.Ref.{now}
 use lib.ListN.{length}
 use Rattle.octets.specs.Octets.{Bytes}
-use Rattle.ogg_crc.specs.Table.{entryIn}
+use Rattle.crc_tables.specs.Table.{entryIn}
 use Rattle.ogg_crc.specs.Sliced.{pageSliced}
 use Rattle.stream.specs.Readings.{Readings, readings}
 use Rattle.stream.specs.Feed.{Lent}

@@ -7,7 +7,7 @@ use denote.Ref.{now}
 use lib.ListN.{length, drop, length-take}
 use Rattle.octets.specs.Octets.{total}
 use Rattle.ogg_page.specs.Page.{countOf, lacingOf, bodyOf}
-use Rattle.ogg_page.proofs.RoundTrip.{body-length}
+use Rattle.ogg_page.proofs.Whole.{body-length}
 use Rattle.page_checks.specs.Checked.{found, pageWith}
 use Rattle.reader.specs.Answers.{lentOf}
 use Rattle.reader.proofs.Pages.{ready, page-late, page-early}

@@ -2,7 +2,7 @@
 use mathlib.Core.Path.{sym, ap, _∙_}
 use borrow.Author.Needs.{needs}
 use denote.Ref.{now}
-use Rattle.ogg_crc.specs.Table.{entryIn}
+use Rattle.crc_tables.specs.Table.{entryIn}
 use Rattle.ogg_crc.specs.Sliced.{pageSliced}
 use Rattle.page_checks.specs.Checked.{found}
 use Rattle.reader.specs.Answers.{knownAs, lentOf}

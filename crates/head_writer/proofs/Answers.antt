@@ -1,0 +1,40 @@
+-- The ways of writing a header, by its tests. Assumes nothing.
+use mathlib.Core.Path.{_≡_}
+use mathlib.Core.Bool.{true, false}
+use mathlib.Core.Option.{none, some}
+use Prim.Native.Nat.{ℕ, _+_, _≤_, _<_}
+use borrow.Author.Tests.{lt-ltb, le-ltb}
+use lib.ListN.{length}
+use Rattle.octets.specs.Octets.{Bytes, copied}
+use Rattle.refusal.specs.declared.Refusal.{Refusal}
+use Rattle.refusal.specs.declared.Refusal.the-variants.{ShortOutput, UnfitFields}
+use Rattle.refusal.specs.Checks.{firstOf}
+use Rattle.opus_head.specs.declared.Head.{Head}
+use Rattle.opus_head.specs.Right.{tableLength, rightHead}
+use Rattle.head_writer.specs.declared.HeadWritten.the-variants.{Bytes as Written, Refused as NotWritten}
+use Rattle.head_writer.specs.Writing.{headBytes, headSize, writeChecks, writeTold, writeOut, Wrote}
+
+module _ (h : Head) (out : Bytes) where
+  pub unfit : rightHead h ≡ false → firstOf (writeChecks h (length out)) ≡ some UnfitFields
+  unfolding firstOf
+  unfit e = rw e
+
+  -- m is the table's length, as a call gave it
+  pub short-output : {m : ℕ} → m ≡ tableLength (h .family) (h .channels) → rightHead h ≡ true → length out < 19 + m
+      → firstOf (writeChecks h (length out)) ≡ some ShortOutput
+  unfolding firstOf
+  short-output t e l = rw (e, lt-ltb (length out) (headSize h) (rw t at l))
+
+  pub writable : {m : ℕ} → m ≡ tableLength (h .family) (h .channels) → rightHead h ≡ true → 19 + m ≤ length out
+      → firstOf (writeChecks h (length out)) ≡ none
+  unfolding firstOf
+  writable t e l = rw (e, le-ltb (length out) (headSize h) (rw t at l))
+
+  pub not-written : (why : Refusal) → firstOf (writeChecks h (length out)) ≡ some why → Wrote h out (NotWritten why) out
+  unfolding writeTold writeOut
+  not-written why e = record { told = rw e; output = rw e }
+
+  pub wrote : {m : ℕ} {end : Bytes} → m ≡ tableLength (h .family) (h .channels) → end ≡ copied out 0 (headBytes h)
+      → firstOf (writeChecks h (length out)) ≡ none → Wrote h out (Written (19 + m)) end
+  unfolding writeTold writeOut
+  wrote t o e = rw (t, o) (record { told = rw e; output = rw e })

@@ -1,0 +1,4 @@
+pub mod Answers
+pub mod HeaderBytes
+pub mod Laying
+pub mod RoundTrip

@@ -1,0 +1,142 @@
+-- Reading what was written gives it back, and writing what was read does. Assumes nothing.
+use mathlib.Core.Path.{_≡_, refl, sym, ap, _∙_}
+use mathlib.Core.Bool.{Bool, true, false, _&&_}
+use mathlib.Core.List.{[], _∷_, _++_, append-assoc}
+use Prim.Native.Nat.{ℕ, _+_, _-_, _≤_}
+use native.Mathlib.Omega.{arith}
+use borrow.Author.Tests.{ltb-false, not-false, eq-eqb, le-leb}
+use lib.Dec.{eqb}
+use lib.ListN.{length, getD, take, drop, length-drop, take-append-drop, drop-of-length-le}
+use lib.Seq.{take-all, take-length, take-append-seam}
+use mir.Syntax.{w16}
+use mir.Val.{toZ, ofZ}
+use mir.Facts.{ofZ-toZ}
+use Rattle.octets.specs.Pick.{pick}
+use Rattle.octets.specs.Octets.{Bytes, Octets, begins}
+use Rattle.octets.specs.Numbers.{octets, number}
+use Rattle.octets.proofs.Copying.{copied-fits}
+use Rattle.octets.proofs.Fields.{field-fits, field, byte}
+use Rattle.octets.proofs.Beginnings.{begins-take}
+use Rattle.octets.proofs.Tests.{both, equal-and}
+use Rattle.refusal.proofs.Checks.{no-refusal, passed}
+use Rattle.refusal.specs.Checks.{firstOf}
+use Rattle.refusal.specs.Told.{gives}
+use Rattle.opus_head.specs.declared.Head.{Head}
+use Rattle.opus_head.specs.Fields.{signature, plainIndices, hasTable, streamsOf, coupledOf, indicesOf, places, headOf}
+use Rattle.opus_head.specs.Right.{unusedPlaces, usedPlaces, allZero, rightPlain, rightMapping, rightHead}
+use Rattle.opus_head.specs.Reading.{isHead, readHead}
+use Rattle.opus_head.proofs.Mapping.{used-places, places-used, channels-most, plain-length}
+use Rattle.opus_head.proofs.ReadRight.{Read, allowed, read, indexed, read-is-right}
+use Rattle.head_writer.specs.Writing.{startOf, headBytes, headSize, writeChecks, writeTold, writeOut}
+use Rattle.head_writer.specs.Statements.{Fit, ReadsBack, WritesBack}
+use Rattle.head_writer.proofs.Answers.{writable}
+use Rattle.head_writer.proofs.HeaderBytes.{head-length, head-signature, head-version, head-channels, head-family, plain-head, table-head}
+
+-- ---- reading what was written
+
+-- a header's parts are right
+record Sound (h : Head) : Type 0 where
+  version : h .version ≡ 1
+  mapping : rightMapping h ≡ true
+  plain : rightPlain h ≡ true
+  zeros : allZero (unusedPlaces h) ≡ true
+
+sound : (h : Head) → rightHead h ≡ true → Sound h
+unfolding rightHead
+sound h e =
+    let a = equal-and (h .version) 1 (rightMapping h && (rightPlain h && allZero (unusedPlaces h))) e in
+    let b = both (rightMapping h) (rightPlain h && allZero (unusedPlaces h)) (a .1) in
+    let c = both (rightPlain h) (allZero (unusedPlaces h)) (b .1) in
+    record { version = a .0; mapping = b .0; plain = c .0; zeros = c .1 }
+
+module _ (h : Head) (f : Fit h) (s : Sound h) where
+  few : h .channels ≤ 255
+  few = channels-most (h .family) (h .channels) (allowed h (s .mapping))
+
+  mapped : places (usedPlaces h) ≡ h .mapping
+  mapped = places-used (h .channels) (h .mapping) (f .places) few (s .zeros)
+
+  whole : length (headBytes h) ≡ headSize h
+  whole = head-length h (omega (arith, few))
+
+  one-head : isHead (headBytes h) ≡ true
+  unfolding isHead
+  one-head =
+      rw (
+        head-signature h,
+        head-version h,
+        head-channels h,
+        head-family h,
+        whole,
+        eq-eqb (h .version) 1 (s .version),
+        le-leb 19 (headSize h) (omega arith),
+        eq-eqb (headSize h) (headSize h) refl,
+      )
+
+  same-head : (t : Bool) → eqb (h .family) 0 ≡ t → headOf (headBytes h) ≡ h
+  unfolding rightPlain
+  same-head false e = table-head h f e mapped
+  same-head true e =
+      let l : Bytes = take (h .channels) plainIndices in
+      let a = equal-and (h .streams) 1 (eqb (h .coupled) (h .channels - 1) && begins l (h .mapping)) (rw e at (s .plain)) in
+      let b = equal-and (h .coupled) (h .channels - 1) (begins l (h .mapping)) (a .1) in
+      let size : length l ≡ h .channels = plain-length (h .family) (h .channels) (allowed h (s .mapping)) e in
+      let begun : usedPlaces h ≡ l = rw size at (begins-take l (h .mapping) (b .1)) in
+      plain-head h f e (a .0) (b .0) (rw begun at mapped)
+
+  same-read : readHead (headBytes h) ≡ gives h
+  unfolding readHead firstOf
+  same-read = rw (one-head, same-head (eqb (h .family) 0) refl, s .mapping)
+
+pub reads-back : ReadsBack
+unfolding writeTold writeOut
+reads-back h out f e =
+    let clear = no-refusal (firstOf (writeChecks h (length out))) (headSize h) (headSize h) e .0 in
+    let p = passed _ _ _ clear in
+    let s = sound h (not-false _ (p .0)) in
+    let room : headSize h ≤ length out = ltb-false _ _ (passed _ _ _ (p .1) .0) in
+    let n : length (headBytes h) ≡ headSize h = whole h f s in
+    rw (clear, copied-fits out 0 (headBytes h) (omega arith), ← n, take-length, take-append-seam) (same-read h f s)
+
+-- ---- writing what was read
+
+signed-field : (at : ℕ) (b : Bytes) → Octets b → at + 2 ≤ length b → octets 2 (ofZ w16 (toZ w16 (number 2 b at))) ++ drop (at + 2) b ≡ drop at b
+signed-field at b o h = rw (ofZ-toZ {w = w16} (record { fits = field-fits 2 at b o h })) (field 2 at b o h)
+
+module _ (b : Bytes) (h : Head) (r : Read b h) where
+  -- the table stands at the end
+  ended : (t : Bool) → eqb (getD b 18 0) 0 ≡ t
+      → pick (hasTable (getD b 18 0)) (streamsOf b ∷ coupledOf b ∷ usedPlaces (headOf b)) [] ≡ drop 19 b
+  unfolding streamsOf coupledOf indicesOf headOf
+  ended true e =
+      let size : length b ≡ 19 = rw e at (r .size) in
+      rw e (sym (drop-of-length-le b {i = 19} (omega arith)))
+  ended false e =
+      let size : length b ≡ 19 + (2 + getD b 9 0) = rw e at (r .size) in
+      let used : usedPlaces (headOf b) ≡ indicesOf b = used-places (getD b 9 0) (indicesOf b) (indexed b h r) in
+      let all : take (getD b 9 0) (drop 21 b) ≡ drop 21 b = take-all (getD b 9 0) (drop 21 b) (simp length-drop (omega arith)) in
+      rw (used, e, all, byte 20 (getD b 20 0) b refl (omega arith), byte 19 (getD b 19 0) b refl (omega arith))
+
+  rebuilt : Octets b → headBytes (headOf b) ≡ b
+  unfolding headBytes startOf headOf
+  rebuilt o =
+      let start : take 8 b ≡ signature = begins-take signature b (r .signed) in
+      simp append-assoc
+      (rw (
+        ended (eqb (getD b 18 0) 0) refl,
+        byte 18 (getD b 18 0) b refl (omega arith),
+        signed-field 16 b o (omega arith),
+        field 4 12 b o (omega arith),
+        field 2 10 b o (omega arith),
+        byte 9 (getD b 9 0) b refl (omega arith),
+        byte 8 (getD b 8 0) b refl (omega arith),
+      ) (rw start at (take-append-drop 8 b)))
+
+pub writes-back : WritesBack
+unfolding headOf writeTold writeOut
+writes-back b out h o e one room =
+    let r = read b h e in
+    let same : headBytes h ≡ b = rw (r .given) at (rebuilt b h r o) in
+    let size : length b ≡ headSize h = r .size ∙ ap headSize (r .given) in
+    let clear = writable h out refl (read-is-right b h o e) (omega arith) in
+    (rw clear (ap gives (sym size)), rw (clear, same))

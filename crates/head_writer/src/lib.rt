@@ -1,0 +1,76 @@
+// Writing the identification header of an Ogg Opus stream (RFC 7845, 5.1).
+ghost use mathlib.Core.Path.{_≡_};
+ghost use Prim.Native.Nat.{_≤_};
+ghost use lib.ListN.{length};
+ghost use Rattle.octets.specs.Octets.{copied};
+ghost use Rattle.head_writer.specs.Writing.{startOf, headBytes, headSize, Wrote};
+use opus_head::Head;
+use refusal::Refusal;
+
+pub enum HeadWritten {
+    Bytes(usize),
+    Refused(Refusal),
+}
+
+// The 19 bytes before the table.
+fn start_of(h: Head) -> [u8; 19]
+    ensures { λ r. ⌜ r ≡ startOf h ⌝ }
+{
+    let gain = h.gain;
+    let p = number_writer::octets64(h.preskip as u64);
+    let r = number_writer::octets64(h.rate as u64);
+    let g = number_writer::octets64(octets::unsigned16(gain) as u64);
+    [
+        0x4f,
+        0x70,
+        0x75,
+        0x73,
+        0x48,
+        0x65,
+        0x61,
+        0x64,
+        h.version,
+        h.channels,
+        p[0],
+        p[1],
+        r[0],
+        r[1],
+        r[2],
+        r[3],
+        g[0],
+        g[1],
+        h.family,
+    ]
+}
+
+// A header of right fields, into an output with room for it.
+fn put_head(h: Head, out: &mut [u8])
+    requires { ⌜ headSize h ≤ length (now out) ⌝ }
+    ensures { λ _. ⌜ now (out .exit) ≡ copied (now (out .entry)) 0 (headBytes h) ⌝ }
+{
+    let start = start_of(h);
+    octets::copy_at(out, 0, &start);
+    if h.family != 0 {
+        let mapping = h.mapping;
+        let channels = octets::wide(h.channels);
+        number_writer::put8(out, 19, h.streams);
+        number_writer::put8(out, 20, h.coupled);
+        octets::copy_at(out, 21, &mapping[..channels]);
+    }
+}
+
+// The header of these fields, written to the start of `out`. 23: fields that a reading would refuse, or an unused place of
+// the mapping that is not zero. 22: `out` is shorter than the header. On refusal nothing is written.
+pub fn write_head(h: Head, out: &mut [u8]) -> HeadWritten
+    ensures { λ r. ⌜ Wrote h (now (out .entry)) r (now (out .exit)) ⌝ }
+{
+    if !opus_head::right_head(h) {
+        return HeadWritten::Refused(Refusal::UnfitFields);
+    }
+    let size = 19 + opus_head::table_length(h.family, h.channels);
+    if out.len() < size {
+        return HeadWritten::Refused(Refusal::ShortOutput);
+    }
+    put_head(h, out);
+    HeadWritten::Bytes(size)
+}

@@ -1,0 +1,5 @@
+pub mod Samples
+pub mod CodedLengths
+pub mod Framing
+pub mod Shapes
+pub mod Outlines

@@ -1,0 +1,117 @@
+-- Reading what was written gives it back, and writing what was read does. Assumes nothing.
+use mathlib.Core.Path.{_≡_, refl, sym, ap, _∙_}
+use mathlib.Core.Bool.{true}
+use mathlib.Core.List.{_++_}
+use mathlib.Core.Option.{none}
+use Prim.Native.Nat.{ℕ, _^_, _≤_, _<_}
+use native.Mathlib.Omega.{arith}
+use borrow.Author.Tests.{ltb-false, eqb-true, not-false, eq-eqb}
+use lib.ListN.{length, getD, drop, take-append-drop}
+use lib.Seq.{take-length, take-append-seam, drop-drop}
+use Rattle.octets.specs.Octets.{Bytes, Octets, total}
+use Rattle.octets.proofs.Fields.{field, byte}
+use Rattle.octets.proofs.Copying.{copied-fits}
+use Rattle.refusal.proofs.Checks.{no-refusal, passed}
+use Rattle.refusal.specs.Checks.{firstOf}
+use Rattle.refusal.specs.Told.{gives}
+use Rattle.ogg_crc.specs.Crc.{pageCrc}
+use Rattle.ogg_crc.proofs.Page.{page-crc-fits}
+use Rattle.ogg_page.specs.declared.PageHeader.{PageHeader}
+use Rattle.ogg_page.specs.Page.{headerOf, checksumOf, countOf, lacingOf, bodyOf, sizeOf}
+use Rattle.ogg_page.specs.Reading.{isOnePage, readChecks, readPage}
+use Rattle.page_writer.specs.Writing.{pageBytes, pageSize, writeChecks, writeTold, writeOut}
+use Rattle.page_writer.specs.Statements.{Fit, ReadsAs, ReadsBack, WritesBack}
+use Rattle.ogg_page.proofs.Reading.{right-page}
+use Rattle.ogg_page.proofs.Whole.{capture, captured, version-whole, whole, lacing-length, body-length}
+use Rattle.page_writer.proofs.Writing.{writable}
+use Rattle.page_writer.proofs.Written.{page, page-length, page-capture, page-version, page-count, page-lacing, page-body, page-header, page-checksum, page-crc, sealed-page}
+
+-- ---- reading what was written
+
+-- what the checks of a writer that wrote have shown
+record Sound (h : PageHeader) (l b out : Bytes) : Type 0 where
+  clear : firstOf (writeChecks h l b (length out)) ≡ none
+  sum : total l ≡ length b
+  room : pageSize l b ≤ length out
+
+sound : (h : PageHeader) (l b out : Bytes) (n : ℕ) → writeTold h l b out ≡ gives n → Sound h l b out
+unfolding writeTold
+sound h l b out n e =
+    let clear = no-refusal (firstOf (writeChecks h l b (length out))) (pageSize l b) n e .0 in
+    let p = passed _ _ _ clear in
+    let q = passed _ _ _ (p .1) in
+    let r = passed _ _ _ (q .1) in
+    let s = passed _ _ _ (r .1) in
+    record { clear = clear; sum = eqb-true _ _ (not-false _ (q .0)); room = ltb-false _ _ (s .0) }
+
+-- a page with its own checksum is read
+module _ (h : PageHeader) (x : ℕ) (l b : Bytes) (sum : total l ≡ length b) where
+  page-size : length (page h x l b) ≡ sizeOf (page h x l b)
+  unfolding sizeOf
+  page-size = rw (page-length h x l b, page-count h x l b, page-lacing h x l b, sum)
+
+  page-one : isOnePage (page h x l b) ≡ true
+  unfolding isOnePage
+  page-one = rw (page-capture h x l b, page-version h x l b, eq-eqb (length (page h x l b)) (sizeOf (page h x l b)) page-size)
+
+  page-reads : Fit h → pageCrc (page h x l b) ≡ x → x < 2 ^ 32 → ReadsAs (page h x l b) h l b
+  page-reads f e less = record {
+    header = right-page pageCrc (page h x l b) page-one (eq-eqb _ _ (e ∙ sym (page-checksum h x l b less))) ∙ ap gives (page-header h x l b f);
+    lacing = page-lacing h x l b;
+    body = page-body h x l b;
+  }
+
+pub reads-back : ReadsBack
+unfolding writeOut
+reads-back h l b out f e =
+    let s = sound h l b out _ e in
+    let x : ℕ = pageCrc (page h 0 l b) in
+    let n : length (page h x l b) ≡ pageSize l b = page-length h x l b in
+    rw (s .clear, sealed-page h l b, copied-fits out 0 (page h x l b) (omega arith), ← n, take-length, take-append-seam)
+    (page-reads h x l b (s .sum) f (page-crc h x l b) (page-crc-fits (page h 0 l b)))
+
+-- ---- writing what was read
+
+-- the bytes of a whole page
+module _ (p : Bytes) (one : isOnePage p ≡ true) where
+  size-same : pageSize (lacingOf p) (bodyOf p) ≡ length p
+  unfolding sizeOf
+  size-same = rw (lacing-length p one, body-length p one) (sym (whole p one))
+
+  rebuilt : Octets p → page (headerOf p) (checksumOf p) (lacingOf p) (bodyOf p) ≡ p
+  unfolding page headerOf lacingOf bodyOf
+  rebuilt o =
+      let c = capture p (captured p one .0) in
+      let size : 27 ≤ length p = omega (arith, size-same) in
+      let end : lacingOf p ++ bodyOf p ≡ drop 27 p = rw (← drop-drop (countOf p) 27 p) (take-append-drop (countOf p) (drop 27 p)) in
+      rw (
+        end,
+        byte 26 (length (lacingOf p)) p (sym (lacing-length p one)) (omega arith),
+        field 4 22 p o (omega arith),
+        field 4 18 p o (omega arith),
+        field 4 14 p o (omega arith),
+        field 8 6 p o (omega arith),
+        byte 5 (getD p 5 0) p refl (omega arith),
+        byte 4 0 p (version-whole p one .0) (omega arith),
+        byte 3 0x53 p (c .1 .1 .1) (omega arith),
+        byte 2 0x67 p (c .1 .1 .0) (omega arith),
+        byte 1 0x67 p (c .1 .0) (omega arith),
+        byte 0 0x4f p (c .0) (omega arith),
+      )
+
+pub writes-back : WritesBack
+unfolding writeTold writeOut readPage
+writes-back p out h o e low room =
+    let r = no-refusal (firstOf (readChecks pageCrc p)) (headerOf p) h e in
+    let a = passed _ _ _ (r .0) in
+    let one : isOnePage p ≡ true = not-false _ (a .0) in
+    let ok : pageCrc p ≡ checksumOf p = eqb-true _ _ (not-false _ (passed _ _ _ (a .1) .0)) in
+    let l : Bytes = lacingOf p in
+    let b : Bytes = bodyOf p in
+    let again : page h (checksumOf p) l b ≡ p = rw (r .1) at (rebuilt p one o) in
+    let crc : pageCrc (page h 0 l b) ≡ checksumOf p = sym (page-crc h (checksumOf p) l b) ∙ ap pageCrc again ∙ ok in
+    let same : pageBytes h l b ≡ p = sealed-page h l b ∙ rw crc again in
+    let size : pageSize l b ≡ length p = size-same p one in
+    let clear : firstOf (writeChecks h l b (length out)) ≡ none =
+    (writable h l b (length out) (omega (arith, o .below 26, lacing-length p one)) (sym (body-length p one)) low (omega arith)) in
+    (rw clear (ap gives size), rw (clear, same))

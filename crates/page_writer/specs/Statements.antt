@@ -1,0 +1,36 @@
+-- What is proved of written pages, beside the contracts. Assumes nothing.
+use Prim.Native.Nat.{_^_, _≤_, _<_}
+use mathlib.Core.Path.{_≡_}
+use lib.ListN.{length, take}
+use Rattle.octets.specs.Octets.{Bytes, Octets, copied}
+use Rattle.refusal.specs.Told.{gives}
+use Rattle.ogg_crc.specs.Crc.{pageCrc}
+use Rattle.ogg_page.specs.declared.PageHeader.{PageHeader}
+use Rattle.ogg_page.specs.Page.{lacingOf, bodyOf}
+use Rattle.ogg_page.specs.Reading.{readPage}
+use Rattle.page_writer.specs.Writing.{pageSize, writeTold, writeOut}
+
+-- numbers that the fields' widths hold
+pub record Fit (h : PageHeader) : Type 0 where
+  pub flags : h .flags < 2 ^ 8
+  pub granule : h .granule < 2 ^ 64
+  pub serial : h .serial < 2 ^ 32
+  pub sequence : h .sequence < 2 ^ 32
+
+-- the bytes p read as a page of these fields, lacing values and body
+pub record ReadsAs (p : Bytes) (h : PageHeader) (l b : Bytes) : Type 0 where
+  pub header : readPage pageCrc p ≡ gives h
+  pub lacing : lacingOf p ≡ l
+  pub body : bodyOf p ≡ b
+
+-- reading what was written gives the same fields, lacing values and body
+abbrev pub ReadsBack : Type 0
+ReadsBack =
+    (h : PageHeader) (l b out : Bytes) → Fit h → writeTold h l b out ≡ gives (pageSize l b)
+    → ReadsAs (take (pageSize l b) (writeOut h l b out)) h l b
+
+-- writing what was read gives the same bytes, for flags at most 7: the writer takes no others
+abbrev pub WritesBack : Type 0
+WritesBack =
+    (p out : Bytes) (h : PageHeader) → Octets p → readPage pageCrc p ≡ gives h → h .flags ≤ 7 → length p ≤ length out
+    → (writeTold h (lacingOf p) (bodyOf p) out ≡ gives (length p)) × (writeOut h (lacingOf p) (bodyOf p) out ≡ copied out 0 p)

@@ -1,0 +1,96 @@
+// Writing an Ogg page (RFC 3533), and making the checksum of a page anew.
+ghost use mathlib.Core.Path.{_≡_};
+ghost use Prim.Native.Nat.{_≤_};
+ghost use lib.ListN.{length};
+ghost use Rattle.octets.specs.Octets.{copied};
+ghost use Rattle.page_writer.specs.Writing.{sealed, startOf, pageBytes, pageSize, Wrote};
+use ogg_page::PageHeader;
+use refusal::Refusal;
+
+pub enum PageWritten {
+    Bytes(usize),
+    Refused(Refusal),
+}
+
+// Puts the page's checksum into its field. Fewer than 26 bytes stay as they are.
+pub fn renew_checksum(page: &mut [u8])
+    ensures { λ _. ⌜ now (page .exit) ≡ sealed (now (page .entry)) ⌝ }
+{
+    let sum = ogg_crc::page_checksum(page);
+    number_writer::put32(page, 22, sum);
+}
+
+// The 27 bytes before the lacing values, the checksum zero.
+fn start_of(h: PageHeader, count: u8) -> [u8; 27]
+    ensures { λ r. ⌜ r ≡ startOf h count ⌝ }
+{
+    let g = number_writer::octets64(h.granule);
+    let s = number_writer::octets64(h.serial as u64);
+    let q = number_writer::octets64(h.sequence as u64);
+    [
+        0x4f,
+        0x67,
+        0x67,
+        0x53,
+        0,
+        h.flags,
+        g[0],
+        g[1],
+        g[2],
+        g[3],
+        g[4],
+        g[5],
+        g[6],
+        g[7],
+        s[0],
+        s[1],
+        s[2],
+        s[3],
+        q[0],
+        q[1],
+        q[2],
+        q[3],
+        0,
+        0,
+        0,
+        0,
+        count,
+    ]
+}
+
+// The page of fields that fit, into an output with room for it.
+fn put_page(h: PageHeader, lacing: &[u8], body: &[u8], out: &mut [u8])
+    requires { ⌜ length (now lacing) ≤ 255 ⌝ }
+    requires { ⌜ pageSize (now lacing) (now body) ≤ length (now out) ⌝ }
+    ensures { λ _. ⌜ now (out .exit) ≡ copied (now (out .entry)) 0 (pageBytes h (now (lacing .entry)) (now (body .entry))) ⌝ }
+{
+    let count = lacing.len();
+    let size = 27 + count + body.len();
+    let start = start_of(h, count as u8);
+    octets::copy_at(out, 0, &start);
+    octets::copy_at(out, 27, lacing);
+    octets::copy_at(out, 27 + count, body);
+    renew_checksum(&mut out[..size]);
+}
+
+// The page of these fields, lacing values and body, written to the start of `out`. 23: more than 255 values, values that
+// do not sum to the body's length, or flags above 7. 22: `out` is shorter than the page. On refusal nothing is written.
+pub fn write_page(h: PageHeader, lacing: &[u8], body: &[u8], out: &mut [u8]) -> PageWritten
+    ensures { λ r. ⌜ Wrote h (now (lacing .entry)) (now (body .entry)) (now (out .entry)) r (now (out .exit)) ⌝ }
+{
+    if lacing.len() > 255 {
+        return PageWritten::Refused(Refusal::UnfitFields);
+    }
+    if ogg_page::lacing::sum_of(lacing) != body.len() {
+        return PageWritten::Refused(Refusal::UnfitFields);
+    }
+    if h.flags > 7 {
+        return PageWritten::Refused(Refusal::UnfitFields);
+    }
+    let size = 27 + lacing.len() + body.len();
+    if out.len() < size {
+        return PageWritten::Refused(Refusal::ShortOutput);
+    }
+    put_page(h, lacing, body, out);
+    PageWritten::Bytes(size)
+}

@@ -1,0 +1,51 @@
+// The parts of a comment header (RFC 7845, 5.2): its vendor, a comment, and the gain in one. Nothing is copied.
+ghost use mathlib.Core.Path.{_≡_};
+ghost use Rattle.refusal.specs.Told.{numberIn};
+ghost use Rattle.opus_comment.specs.Gain.{toldGain};
+ghost use Rattle.opus_tags.specs.Reading.{findVendor, findComment, partIn, readGain, toldPart};
+use opus_comment::GainRead;
+use opus_tags::PartRead;
+
+// The part that was found, or an empty one.
+fn part_in(b: &[u8], found: PartRead) -> &[u8]
+    ensures { λ r. ⌜ now r ≡ partIn (now (b .entry)) (toldPart found) ⌝ }
+{
+    match found {
+        PartRead::Found(p) => octets::part_of(b, p.start, p.size),
+        PartRead::Refused(_) => octets::part_of(b, 0, 0),
+    }
+}
+
+// The vendor, empty where `read_tags` refuses.
+pub fn vendor(b: &[u8]) -> &[u8]
+    ensures { λ r. ⌜ now r ≡ partIn (now (b .entry)) (findVendor (now (b .entry))) ⌝ }
+{
+    part_in(b, opus_tags::find_vendor(b))
+}
+
+// Comment i, empty where `comment_number` is not 0.
+pub fn comment(b: &[u8], i: usize) -> &[u8]
+    ensures { λ r. ⌜ now r ≡ partIn (now (b .entry)) (findComment (now (b .entry)) i) ⌝ }
+{
+    part_in(b, opus_tags::find_comment(b, i))
+}
+
+// The number by which comment i is refused: 14, then 20; 0 for none.
+pub fn comment_number(b: &[u8], i: usize) -> u8
+    ensures { λ r. ⌜ r ≡ numberIn (findComment (now (b .entry)) i) ⌝ }
+{
+    match opus_tags::find_comment(b, i) {
+        PartRead::Found(_) => 0,
+        PartRead::Refused(why) => refusal::number(why),
+    }
+}
+
+// The gain in comment i, whatever its name. 14, then 20, then 21: its value is no gain.
+pub fn gain(b: &[u8], i: usize) -> GainRead
+    ensures { λ r. ⌜ toldGain r ≡ readGain (now (b .entry)) i ⌝ }
+{
+    match opus_tags::find_comment(b, i) {
+        PartRead::Found(p) => opus_comment::comment_gain(octets::part_of(b, p.start, p.size)),
+        PartRead::Refused(why) => GainRead::Refused(why),
+    }
+}

@@ -1,0 +1,4 @@
+pub mod Lengths
+pub mod Laying
+pub mod Taking
+pub mod RoundTrip
