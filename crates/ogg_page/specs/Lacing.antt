@@ -2,11 +2,12 @@
 -- "Page and lacing"). Assumes nothing.
 use Prim.Native.Nat.{ℕ, _+_, _-_}
 use mathlib.Core.Path.{_≡_}
+use mathlib.Core.Bool.{Bool, _&&_}
 use mathlib.Core.List.{List, [], _∷_, _++_}
-use lib.Dec.{ltb}
+use lib.Dec.{ltb, leb, eqb}
 use lib.ListN.{length, take, drop, replicate}
 use Rattle.octets.specs.Pick.{pick}
-use Rattle.octets.specs.Octets.{Bytes}
+use Rattle.octets.specs.Octets.{Bytes, total}
 use Rattle.ogg_page.specs.declared.lacing.Pieces.{Pieces}
 
 -- the lengths of the packets that end here, in order; n bytes belong to values already read, all of them 255
@@ -48,3 +49,7 @@ cutFrom n (v ∷ l) body =
 
 abbrev pub cut : Bytes → Bytes → Cut
 cut l body = cutFrom 0 l body
+
+-- lacing values that a page can have, and a body of as many bytes as they say
+unfoldable pub isBody : Bytes → Bytes → Bool
+isBody l body = leb (length l) 255 && eqb (total l) (length body)

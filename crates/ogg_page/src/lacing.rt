@@ -1,5 +1,6 @@
 // Lacing values: 255 goes on, a smaller one ends a packet.
-ghost use Rattle.ogg_page.specs.Lacing.{PiecesAre};
+ghost use mathlib.Core.Path.{_≡_};
+ghost use Rattle.ogg_page.specs.Lacing.{PiecesAre, isBody};
 
 // How many packets end, the length of each, and how many bytes are left of a packet that goes on. Places of `lengths` past
 // `count` are zero.
@@ -33,4 +34,14 @@ pub fn pieces_of(lacing: &[u8]) -> Pieces
         lengths,
         unfinished: bytes,
     }
+}
+
+// Whether a page can have these lacing values and this body.
+pub fn is_body(lacing: &[u8], body: &[u8]) -> bool
+    ensures { λ r. ⌜ r ≡ isBody (now (lacing .entry)) (now (body .entry)) ⌝ }
+{
+    if lacing.len() > 255 {
+        return false;
+    }
+    super::sum(lacing) == body.len()
 }
