@@ -1,43 +1,45 @@
 -- 1, 9 and 11 of an audio page, and what the two ways past them ask. Assumes nothing.
 use Prim.Native.Nat.{ℕ, _+_, _<_, _≤_, _^_}
 use mathlib.Core.Path.{_≡_, refl, sym, ap, subst, _∙_}
-use mathlib.Core.Bool.{Bool, true, false, not, _&&_, _||_, false≢true}
+use mathlib.Core.Bool.{Bool, true, false, not, _&&_, false≢true}
 use mathlib.Core.List.{List}
 use mathlib.Core.Option.{Option, some}
 use native.Mathlib.Nat.{add-zero}
 use native.Mathlib.Omega.{arith}
 use borrow.Author.Tests.{ltb-false, leb-true, eqb-true, not-true}
 use lib.Dec.{ltb, leb, eqb}
-use lib.ListN.{length, drop}
+use lib.ListN.{length}
 use Rattle.octets.specs.Pick.{pick}
 use Rattle.octets.specs.Octets.{Bytes, total}
 use Rattle.octets.proofs.Tests.{both}
 use Rattle.refusal.specs.declared.Refusal.{Refusal}
 use Rattle.refusal.specs.declared.Refusal.the-variants.{ShortRoom, PacketTooLong, WrongGranule}
 use Rattle.refusal.specs.Checks.{firstOf}
+use Rattle.refusal.specs.Told.{Told}
 use Rattle.ogg_page.specs.declared.PageHeader.{PageHeader}
-use Rattle.ogg_page.specs.Lacing.{unfinishedFrom}
+use Rattle.ogg_page.specs.Lacing.{unfinishedFrom, isBody}
 use Rattle.stream.specs.declared.Phase.{Phase}
 use Rattle.stream.specs.declared.Phase.the-variants.{First, Comment, Audio, Opened, Ended as Over}
 use Rattle.stream.specs.declared.Pending.{Pending}
 use Rattle.stream.specs.declared.Pending.the-variants.{Nothing, Held, Dropped}
 use Rattle.stream.specs.declared.Core.{Core}
 use Rattle.stream.specs.declared.Tally.{Tally}
-use Rattle.stream.specs.Page.{Page, completes}
+use Rattle.stream.specs.Page.{Page, completes, pageWith}
 use Rattle.stream.specs.Readings.{Readings}
-use Rattle.stream.specs.State.{State}
+use Rattle.stream.specs.State.{State, isAudio}
 use Rattle.stream.specs.Packets.{Seen, seen, packetMax, tooLong, longFrom, isLong}
 use Rattle.stream.specs.Rules.{wrongShape, wrongGranule}
-use Rattle.stream.specs.Feed.{carriedIn, view, Lent, isShort, carryAfter, fedBy}
+use Rattle.stream.specs.Feed.{carriedIn, view, Lent, isShort, carryAfter, fedBy, readerOf, lentOf, FedIs, shortBy, Taken}
 use Rattle.stream.proofs.Pieces.{or-left, or-right, seen-completes}
-use Rattle.audio_page.specs.declared.AudioFed.{AudioFed}
 use Rattle.audio_page.specs.declared.AudioFed.the-variants.{Refused}
-use Rattle.audio_page.specs.declared.Scan.the-variants.{TooLong, Rest}
-use Rattle.audio_page.specs.Audio.{isAudio, isBody, fits, audioChecks, audioFed, audioOn, feedAudio, readerOf, pageIn, lentOf, AudioIs}
-use Rattle.audio_page.specs.Code.{firstFrom, scanBy, tailBy, granuleWrong, heldEnd, freshBy, lateChecks, lateFed, Fitting, Sounding, Silent}
-use Rattle.audio_page.proofs.Splitting.{Ended, ways, after-first, ends-first}
+use Rattle.audio_page.specs.Audio.{fits, audioChecks, audioFed, audioOn, feedAudio, toldAudio}
+use Rattle.audio_page.specs.Code.{firstFrom, granuleWrong, heldEnd, freshBy, lateChecks, lateFed, Fitting, Sounding, Silent}
+use Rattle.audio_page.proofs.Splitting.{Ended, ways, ends-first}
 use Rattle.audio_page.proofs.Seeing.{tail-le, tail-here}
 use Rattle.audio_page.proofs.Feeding.{inAudio, in-audio}
+use Rattle.page_checks.specs.Scan.{tailBy, scanBy}
+use Rattle.page_checks.specs.declared.lacing.Scan.the-variants.{TooLong, Rest}
+use Rattle.page_checks.proofs.Scanning.{scan-long, scan-short}
 
 -- ---- 1
 
@@ -53,13 +55,11 @@ module _ (k : Core) (t : Tally) (h : PageHeader) (l body carry ends sizes kept :
   lent = lentOf carry ends sizes kept
 
   abbrev page : Page
-  page = pageIn h l body
+  page = pageWith h l body
 
   -- the test as the code makes it
   abbrev pub tested : Bool
-  tested =
-      isAudio (k .phase)
-      && (not (ltb (length carry) 61440 || (ltb (length ends) 255 || (ltb (length sizes) 255 || ltb (length kept) 255))) && isBody l body)
+  tested = isAudio (k .phase) && (not (shortBy (length carry) (length ends) (length sizes) (length kept)) && isBody l body)
 
   pub fitting : tested ≡ true → Fitting k l body carry ends sizes kept
   unfolding isBody
@@ -80,38 +80,23 @@ module _ (k : Core) (t : Tally) (h : PageHeader) (l body carry ends sizes kept :
         kept = ltb-false (length kept) 255 (or-right (ltb (length sizes) 255) _ later);
       }
 
-  pub unfit : (R : Readings) → tested ≡ false → AudioIs (Refused ShortRoom) carry ends sizes kept (feedAudio R (readerOf k t) lent page)
+  pub unfit : (R : Readings) → tested ≡ false → FedIs (feedAudio R (readerOf k t) lent page) (toldAudio (Refused ShortRoom)) carry ends sizes kept
   unfolding feedAudio fits isShort
   unfit R e = rw e (record { told = refl; held = refl; ended = refl; sized = refl; keeps = refl })
 
-  pub fit : (R : Readings) → tested ≡ true → {r : AudioFed} {c z s q : List ℕ}
-      → AudioIs r c z s q (audioOn R (readerOf k t) lent page) → AudioIs r c z s q (feedAudio R (readerOf k t) lent page)
+  pub fit : (R : Readings) → tested ≡ true → {r : Told Taken} {c z s q : List ℕ}
+      → FedIs (audioOn R (readerOf k t) lent page) r c z s q → FedIs (feedAudio R (readerOf k t) lent page) r c z s q
   unfolding feedAudio fits isShort
   fit R e {r} {c} {z} {s} {q} o = rw e o
 
 -- ---- 9 and 11
-
-scan-is : (pending : Pending) (l carry : Bytes)
-    → scanBy pending (firstFrom 0 l .values) l ≡ pick (isLong (carriedIn pending carry) l) TooLong (Rest (tailBy pending (firstFrom 0 l .values) l))
-scan-is Nothing l carry = refl
-scan-is (Held n) l carry = refl
-scan-is Dropped l carry =
-    ap (λ (z : Bytes). pick (longFrom 0 z) TooLong (Rest (unfinishedFrom 0 (drop (firstFrom 0 l .values) l)))) (sym (after-first l))
-
-scan-long : (b : Bool) (n : ℕ) → TooLong ≡ pick b TooLong (Rest n) → b ≡ true
-scan-long true n e = refl
-scan-long false n e = let z : _≡_ {A = ℕ} 0 1 = cc in absurd (omega arith)
-
-scan-short : (b : Bool) (n rest : ℕ) → Rest rest ≡ pick b TooLong (Rest n) → (b ≡ false) × (rest ≡ n)
-scan-short true n rest e = let z : _≡_ {A = ℕ} 0 1 = cc in absurd (omega arith)
-scan-short false n rest e = (refl, cc)
 
 module _ (R : Readings) (k : Core) (t : Tally) (h : PageHeader) (l body carry ends sizes kept : List ℕ) (audio : k .phase ≡ Audio) where
   abbrev all : Lent
   all = lentOf carry ends sizes kept
 
   abbrev whole : Page
-  whole = pageIn h l body
+  whole = pageWith h l body
 
   abbrev state : State
   state = view (inAudio k) carry
@@ -130,42 +115,42 @@ module _ (R : Readings) (k : Core) (t : Tally) (h : PageHeader) (l body carry en
   verdict =
       ap (λ (d : Bool). pick long (some PacketTooLong) (pick (granuleWrong d (h .granule)) (some WrongGranule) late)) (seen-completes state whole ∙ ends-first l)
 
-  audio-as : {r : AudioFed} {c e z q : List ℕ} (v : Option Refusal) → firstOf (audioChecks R state whole sight) ≡ v
-      → AudioIs r c e z q (fedBy v R (readerOf (inAudio k) t) all state whole sight) → AudioIs r c e z q (audioOn R (readerOf k t) all whole)
+  audio-as : {r : Told Taken} {c e z q : List ℕ} (v : Option Refusal) → firstOf (audioChecks R state whole sight) ≡ v
+      → FedIs (fedBy v R (readerOf (inAudio k) t) all state whole sight) r c e z q → FedIs (audioOn R (readerOf k t) all whole) r c e z q
   unfolding audioFed
   audio-as {r} {c} {e} {z} {q} v same o =
-      subst (λ (i : Core). AudioIs r c e z q (audioOn R (readerOf i t) all whole)) (in-audio k audio)
-      (subst (λ (w : Option Refusal). AudioIs r c e z q (fedBy w R (readerOf (inAudio k) t) all state whole sight)) (sym same) o)
+      subst (λ (i : Core). FedIs (audioOn R (readerOf i t) all whole) r c e z q) (in-audio k audio)
+      (subst (λ (w : Option Refusal). FedIs (fedBy w R (readerOf (inAudio k) t) all state whole sight) r c e z q) (sym same) o)
 
-  pub too-long : TooLong ≡ scanBy (k .pending) (firstFrom 0 l .values) l → AudioIs (Refused PacketTooLong) carry ends sizes kept (audioOn R (readerOf k t) all whole)
+  pub too-long : TooLong ≡ scanBy (k .pending) l → FedIs (audioOn R (readerOf k t) all whole) (toldAudio (Refused PacketTooLong)) carry ends sizes kept
   unfolding carryAfter
   too-long e =
-      let is : long ≡ true = scan-long long _ (e ∙ scan-is (k .pending) l carry) in
+      let is : long ≡ true = scan-long (k .pending) l carry e in
       audio-as (some PacketTooLong)
       (verdict ∙ ap (λ (b : Bool). pick b (some PacketTooLong) (pick (granuleWrong (firstFrom 0 l .ends) (h .granule)) (some WrongGranule) late)) is)
       (record { told = refl; held = refl; ended = refl; sized = refl; keeps = refl })
 
-  module _ (rest : ℕ) (e : Rest rest ≡ scanBy (k .pending) (firstFrom 0 l .values) l) where
-    passed : (long ≡ false) × (rest ≡ tailBy (k .pending) (firstFrom 0 l .values) l)
-    passed = scan-short long _ rest (e ∙ scan-is (k .pending) l carry)
+  module _ (rest : ℕ) (e : Rest rest ≡ scanBy (k .pending) l) where
+    passed : (long ≡ false) × (rest ≡ tailBy (k .pending) l)
+    passed = scan-short (k .pending) l carry rest e
 
     not-long : firstOf (audioChecks R state whole sight) ≡ pick (granuleWrong (firstFrom 0 l .ends) (h .granule)) (some WrongGranule) late
     not-long =
         verdict ∙ ap (λ (b : Bool). pick b (some PacketTooLong) (pick (granuleWrong (firstFrom 0 l .ends) (h .granule)) (some WrongGranule) late)) (passed .0)
 
     pub wrong-granule : granuleWrong (firstFrom 0 l .ends) (h .granule) ≡ true
-        → AudioIs (Refused WrongGranule) carry ends sizes kept (audioOn R (readerOf k t) all whole)
+        → FedIs (audioOn R (readerOf k t) all whole) (toldAudio (Refused WrongGranule)) carry ends sizes kept
     unfolding carryAfter
     wrong-granule w =
         audio-as (some WrongGranule) (not-long ∙ ap (λ (b : Bool). pick b (some WrongGranule) late) w)
         (record { told = refl; held = refl; ended = refl; sized = refl; keeps = refl })
 
-    pub past-eleven : granuleWrong (firstFrom 0 l .ends) (h .granule) ≡ false → {r : AudioFed} {c s z q : List ℕ}
-        → AudioIs r c s z q (lateFed R (readerOf k t) all whole) → AudioIs r c s z q (audioOn R (readerOf k t) all whole)
+    pub past-eleven : granuleWrong (firstFrom 0 l .ends) (h .granule) ≡ false → {r : Told Taken} {c s z q : List ℕ}
+        → FedIs (lateFed R (readerOf k t) all whole) r c s z q → FedIs (audioOn R (readerOf k t) all whole) r c s z q
     unfolding lateFed
     past-eleven w {r} {c} {s} {z} {q} o =
         audio-as late (not-long ∙ ap (λ (b : Bool). pick b (some WrongGranule) late) w)
-        (subst (λ (i : Core). AudioIs r c s z q (lateFed R (readerOf i t) all whole)) (sym (in-audio k audio)) o)
+        (subst (λ (i : Core). FedIs (lateFed R (readerOf i t) all whole) r c s z q) (sym (in-audio k audio)) o)
 
 -- ---- what the two ways ask
 
@@ -180,15 +165,15 @@ granule-small : (done : Bool) (g : ℕ) → done ≡ true → granuleWrong done 
 granule-small true g t e = omega (arith, ltb-false 9223372036854775807 g e)
 granule-small false g t e = absurd (false≢true t)
 
-fresh-fits : (pending : Pending) (values : ℕ) (l : Bytes) → freshBy pending (tailBy pending values l) ≤ total l
-fresh-fits Nothing values l = omega (arith, tail-le l 0)
-fresh-fits (Held n) values l = omega arith
-fresh-fits Dropped values l = omega arith
+fresh-fits : (pending : Pending) (l : Bytes) → freshBy pending (tailBy pending l) ≤ total l
+fresh-fits Nothing l = omega (arith, tail-le l 0)
+fresh-fits (Held n) l = omega arith
+fresh-fits Dropped l = omega arith
 
 module _ (k : Core) (h : PageHeader) (l body carry ends sizes kept : List ℕ) (f : Fitting k l body carry ends sizes kept) (rest : ℕ)
-    (e : Rest rest ≡ scanBy (k .pending) (firstFrom 0 l .values) l) where
-  shorts : (isLong (carriedIn (k .pending) carry) l ≡ false) × (rest ≡ tailBy (k .pending) (firstFrom 0 l .values) l)
-  shorts = scan-short (isLong (carriedIn (k .pending) carry) l) _ rest (e ∙ scan-is (k .pending) l carry)
+    (e : Rest rest ≡ scanBy (k .pending) l) where
+  shorts : (isLong (carriedIn (k .pending) carry) l ≡ false) × (rest ≡ tailBy (k .pending) l)
+  shorts = scan-short (k .pending) l carry rest e
 
   pub sounding : firstFrom 0 l .ends ≡ true → granuleWrong (firstFrom 0 l .ends) (h .granule) ≡ false
       → Sounding k h (firstFrom 0 l) rest l body carry ends sizes kept
@@ -219,4 +204,4 @@ module _ (k : Core) (h : PageHeader) (l body carry ends sizes kept : List ℕ) (
 
     pub silent-fits : (firstFrom 0 l .bytes ≤ length body) × (freshBy (k .pending) rest ≤ length body)
     silent-fits =
-        (omega (arith, ways 0 l .1 undone .sums, f .sums), rw (shorts .1) (omega (arith, fresh-fits (k .pending) (firstFrom 0 l .values) l, f .sums)))
+        (omega (arith, ways 0 l .1 undone .sums, f .sums), rw (shorts .1) (omega (arith, fresh-fits (k .pending) l, f .sums)))

@@ -1,5 +1,5 @@
 -- A page past 11, by what is seen of it: what the code tells and leaves is what the rules say. Assumes nothing.
-use Prim.Native.Nat.{ℕ, _+_, _-_, _≤_}
+use Prim.Native.Nat.{ℕ, _-_, _≤_}
 use mathlib.Core.Path.{_≡_, refl, sym, ap, ap₂, _∙_}
 use mathlib.Core.List.{List, _++_, map}
 use mathlib.Core.Option.{Option, none, some}
@@ -22,15 +22,15 @@ use Rattle.stream.specs.declared.Pending.{Pending}
 use Rattle.stream.specs.declared.Core.{Core}
 use Rattle.stream.specs.declared.Tally.{Tally}
 use Rattle.stream.specs.declared.Counts.{Counts}
-use Rattle.stream.specs.Page.{Page, isLastPage, last, whole, rest}
+use Rattle.stream.specs.Page.{Page, isLastPage, last, whole, rest, pageWith}
 use Rattle.stream.specs.Readings.{Readings}
 use Rattle.stream.specs.State.{Carried, State}
 use Rattle.stream.specs.Packets.{begun, audioPackets, lengthsOf}
 use Rattle.stream.specs.Rules.{packetChecks, timeChecks, startOn, nextOn}
-use Rattle.stream.specs.Feed.{Reader, carriedIn, pendingOf, view, Entry, entries, entriesOn, countsOn, skipOn, Lent, firstPiece, appended, carryAfter, listed, fedBy}
+use Rattle.stream.specs.Feed.{Reader, carriedIn, pendingOf, view, Entry, entries, entriesOn, countsOn, skipOn, Lent, firstPiece, appended, carryAfter, listed, fedBy, readerOf, noCounts, FedIs}
 use Rattle.stream.proofs.Step.{gives≢refuses}
 use Rattle.audio_page.specs.declared.AudioFed.the-variants.{Accepted, Refused}
-use Rattle.audio_page.specs.Audio.{readerOf, pageIn, toldAudio, AudioIs}
+use Rattle.audio_page.specs.Audio.{toldAudio}
 use Rattle.audio_page.specs.Code.{Lists, countsBy, nextCore, lateOn}
 use Rattle.audio_page.proofs.Verdicts.{judging, placing, late}
 use Rattle.audio_page.proofs.Seeing.{completing, going}
@@ -50,9 +50,6 @@ same-told e f g = cc
 same-gives : {a b : Placed} → _≡_ {A = Told Placed} (gives a) (gives b) → a ≡ b
 same-gives e = cc
 
-abbrev pub noCounts : Counts
-noCounts = record { packets = 0; samples = 0; kept = 0; skipped = 0; trimmed = 0; hole = 0 }
-
 module _ (R : Readings) (k : Core) (t : Tally) (h : PageHeader) (l body : Bytes) (m : Lent) where
   abbrev reader : Reader
   reader = readerOf (inAudio k) t
@@ -61,7 +58,7 @@ module _ (R : Readings) (k : Core) (t : Tally) (h : PageHeader) (l body : Bytes)
   state = view (inAudio k) (m .carry)
 
   abbrev page : Page
-  page = pageIn h l body
+  page = pageWith h l body
 
   abbrev carried : Carried
   carried = carriedIn (k .pending) (m .carry)
@@ -78,13 +75,13 @@ module _ (R : Readings) (k : Core) (t : Tally) (h : PageHeader) (l body : Bytes)
     abbrev checks : List Check
     checks = packetChecks R (k .streams) ps ++ judging k h lengths
 
-    pub refused : {why : Refusal} {now : Bytes} → refuses (numberOf why) ≡ decided (firstOf checks) (placing k h lengths) → now ≡ joined
-        → AudioIs (Refused why) now (m .ends) (m .sizes) (m .kept) (lateOn R reader m state page (completing ps r))
+    pub refused : (why : Refusal) {now : Bytes} → refuses (numberOf why) ≡ decided (firstOf checks) (placing k h lengths) → now ≡ joined
+        → FedIs (lateOn R reader m state page (completing ps r)) (toldAudio (Refused why)) now (m .ends) (m .sizes) (m .kept)
     unfolding audioPackets timeChecks lengthsOf last carryAfter
-    refused {why} {now} q c = by (firstOf checks) refl q
+    refused why {now} q c = by (firstOf checks) refl q
       where
         by : (v : Option Refusal) → firstOf checks ≡ v → refuses (numberOf why) ≡ decided v (placing k h lengths)
-            → AudioIs (Refused why) now (m .ends) (m .sizes) (m .kept) (fedBy v R reader m state page (completing ps r))
+            → FedIs (fedBy v R reader m state page (completing ps r)) (toldAudio (Refused why)) now (m .ends) (m .sizes) (m .kept)
         by none e q = absurd (gives≢refuses (sym q))
         by (some n) e q = record {
           told = ap refuses (ap numberIn q);
@@ -118,12 +115,12 @@ module _ (R : Readings) (k : Core) (t : Tally) (h : PageHeader) (l body : Bytes)
           s ∙ ap (λ (i : ℕ). countsBy i d w (t .skip) (isLastPage (h .flags)) (h .granule)) count
           ∙ ap₂ (λ (i : ℕ) (z : Placed). countsBy (length lengths) i z (t .skip) (isLastPage (h .flags)) (h .granule)) sums e
 
-      pub accepted : AudioIs (Accepted after (record { skip = left }) counts) later es ss ks (lateOn R reader m state page (completing ps r))
+      pub accepted : FedIs (lateOn R reader m state page (completing ps r)) (toldAudio (Accepted after (record { skip = left }) counts)) later es ss ks
       unfolding audioPackets timeChecks lengthsOf last nextOn skipOn
       accepted = by (firstOf checks) q
         where
           by : (v : Option Refusal) → gives w ≡ decided v (placing k h lengths)
-              → AudioIs (Accepted after (record { skip = left }) counts) later es ss ks (fedBy v R reader m state page (completing ps r))
+              → FedIs (fedBy v R reader m state page (completing ps r)) (toldAudio (Accepted after (record { skip = left }) counts)) later es ss ks
           by none q =
               let e : w ≡ placing k h lengths = same-gives q in
               record {
@@ -139,7 +136,7 @@ module _ (R : Readings) (k : Core) (t : Tally) (h : PageHeader) (l body : Bytes)
   -- ---- where none does
 
   pub silent : {later : Bytes} {after : Core} (left : Carried) (next : Pending) → later ≡ carryAfter none state page (m .carry) → after ≡ nextCore k h next (k .position)
-      → pendingOf left ≡ next → AudioIs (Accepted after t noCounts) later (m .ends) (m .sizes) (m .kept) (lateOn R reader m state page (going left))
+      → pendingOf left ≡ next → FedIs (lateOn R reader m state page (going left)) (toldAudio (Accepted after t noCounts)) later (m .ends) (m .sizes) (m .kept)
   unfolding audioPackets packetChecks timeChecks firstOf lengthsOf last nextOn skipOn countsOn entriesOn entries total keptOf skippedOf trimmedOf tally
   silent left next c a p = record {
     told = same-told (a ∙ ap (λ (z : Pending). nextCore k h z (k .position)) (sym p)) (ap (λ (z : ℕ). record { skip = z }) (omega arith)) refl;

@@ -1,5 +1,4 @@
 pub mod Turns
-pub mod Scanning
 pub mod Measuring
 pub mod Listing
 pub mod Timing

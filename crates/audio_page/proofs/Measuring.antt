@@ -18,10 +18,11 @@ use Rattle.opus_packet.specs.Streams.{readPacket, toldPacket}
 use Rattle.opus_packet.proofs.Legal.{legal-lengths}
 use Rattle.stream.specs.Page.{wholeFrom}
 use Rattle.stream.proofs.Pieces.{onwards}
-use Rattle.audio_page.specs.declared.Lengths.{Lengths}
-use Rattle.audio_page.specs.declared.Lengths.the-variants.{All, Refused}
+use Rattle.audio_page.specs.declared.packets.Lengths.{Lengths}
+use Rattle.audio_page.specs.declared.packets.Lengths.the-variants.{All, Refused}
 use Rattle.audio_page.specs.Code.{inFront, andLater, measured, Measures}
-use Rattle.audio_page.proofs.Turns.{next, total-next}
+use Rattle.audio_page.proofs.Turns.{total-next}
+use Rattle.page_checks.proofs.Values.{next}
 
 -- ---- laws of the definitions
 

@@ -2,7 +2,6 @@
 use Prim.Native.Nat.{ℕ, _≤_}
 use mathlib.Core.Path.{_≡_, sym, ap, ap₂, subst, _∙_}
 use mathlib.Core.List.{List}
-use mathlib.Core.Option.{none}
 use lib.ListN.{length, take}
 use Rattle.octets.specs.Octets.{Bytes}
 use Rattle.refusal.specs.declared.Refusal.{Refusal}
@@ -16,21 +15,21 @@ use Rattle.stream.specs.declared.Phase.the-variants.{Audio}
 use Rattle.stream.specs.declared.Core.{Core}
 use Rattle.stream.specs.declared.Tally.{Tally}
 use Rattle.stream.specs.declared.Counts.{Counts}
-use Rattle.stream.specs.Page.{isLastPage, wholeFrom, restFrom, whole, rest}
+use Rattle.stream.specs.Page.{isLastPage, wholeFrom, restFrom, whole, rest, pageWith}
 use Rattle.stream.specs.Readings.{readings}
 use Rattle.stream.specs.State.{Carried}
 use Rattle.stream.specs.Packets.{Seen, join, seen}
-use Rattle.stream.specs.Feed.{carriedIn, view, entries, Lent, firstPiece, appended, withRest, carryAfter}
-use Rattle.audio_page.specs.declared.AudioFed.{AudioFed}
+use Rattle.stream.specs.Feed.{carriedIn, view, entries, Lent, firstPiece, appended, withRest, carryAfter, readerOf, lentOf, noCounts, FedIs, Taken}
 use Rattle.audio_page.specs.declared.AudioFed.the-variants.{Accepted, Refused}
-use Rattle.audio_page.specs.declared.Piece.{Piece}
-use Rattle.audio_page.specs.declared.Timed.the-variants.{Packets, Refused as Untimed}
-use Rattle.audio_page.specs.Audio.{readerOf, pageIn, lentOf, AudioIs}
-use Rattle.audio_page.specs.Code.{firstFrom, tailBy, countOf, measured, packetsBy, heldEnd, timedBy, Times, Lists, countsBy, restOf, begunBy, stillBy, freshBy, nextCore, lateOn, lateFed, Sounding, Silent}
+use Rattle.audio_page.specs.declared.packets.Piece.{Piece}
+use Rattle.audio_page.specs.declared.times.Timed.the-variants.{Packets, Refused as Untimed}
+use Rattle.audio_page.specs.Audio.{toldAudio}
+use Rattle.audio_page.specs.Code.{firstFrom, countOf, measured, packetsBy, heldEnd, timedBy, Times, Lists, countsBy, restOf, begunBy, stillBy, freshBy, nextCore, lateOn, lateFed, Sounding, Silent}
 use Rattle.audio_page.proofs.Splitting.{Ended, Open, ways}
 use Rattle.audio_page.proofs.Seeing.{completing, going, ended, first-ended, rest-ended, begun-rest, first-open, rest-open, Carries, carries}
 use Rattle.audio_page.proofs.Verdicts.{judges, lengths-are}
-use Rattle.audio_page.proofs.Feeding.{inAudio, in-audio, refused, accepted, silent, noCounts}
+use Rattle.audio_page.proofs.Feeding.{inAudio, in-audio, refused, accepted, silent}
+use Rattle.page_checks.specs.Scan.{tailBy}
 
 -- what the place says of the trimmed samples
 pub place-trimmed : (k : Core) (h : PageHeader) {n d : ℕ} {w : Placed} {lens : List ℕ} {x : Told (List ℕ)} → Times (Packets n d w) lens k h x
@@ -45,12 +44,12 @@ module _ (crc : Bytes → ℕ) (k : Core) (t : Tally) (h : PageHeader) (l body c
   abbrev carried : Carried
   carried = carriedIn (k .pending) carry
 
-  abbrev lateIn : Core → Seen → AudioFed → List ℕ → List ℕ → List ℕ → List ℕ → Type 0
-  lateIn q x r c e z w = AudioIs r c e z w (lateOn (readings crc) (readerOf q t) lent (view q carry) (pageIn h l body) x)
+  abbrev lateIn : Core → Seen → Told Taken → List ℕ → List ℕ → List ℕ → List ℕ → Type 0
+  lateIn q x r c e z w = FedIs (lateOn (readings crc) (readerOf q t) lent (view q carry) (pageWith h l body) x) r c e z w
 
   -- from what is seen to the page, and to the state as it is
-  late-by : {r : AudioFed} {c e z w : List ℕ} (x : Seen) → k .phase ≡ Audio → join carried (wholeFrom 0 l body) (restFrom 0 l body) ≡ x
-      → lateIn (inAudio k) x r c e z w → AudioIs r c e z w (lateFed (readings crc) (readerOf k t) lent (pageIn h l body))
+  late-by : {r : Told Taken} {c e z w : List ℕ} (x : Seen) → k .phase ≡ Audio → join carried (wholeFrom 0 l body) (restFrom 0 l body) ≡ x
+      → lateIn (inAudio k) x r c e z w → FedIs (lateFed (readings crc) (readerOf k t) lent (pageWith h l body)) r c e z w
   unfolding lateFed seen whole rest
   late-by {r} {c} {e} {z} {w} x audio sees o =
       subst (λ (q : Core). lateIn q (join (carriedIn (q .pending) carry) (wholeFrom 0 l body) (restFrom 0 l body)) r c e z w) (in-audio k audio)
@@ -65,7 +64,7 @@ module _ (crc : Bytes → ℕ) (k : Core) (t : Tally) (h : PageHeader) (l body c
   packets = packetsBy (k .pending) (firstFrom 0 l .values) (firstFrom 0 l .bytes) l body joined
 
   abbrev tail : ℕ
-  tail = tailBy (k .pending) (firstFrom 0 l .values) l
+  tail = tailBy (k .pending) l
 
   module _ {first : Piece} {left : ℕ} (s : Sounding k h first left l body carry ends sizes kept) (few : k .streams ≤ 255)
       {now : List ℕ} (n : now ≡ appended Audio carried (take (first .bytes) body) carry) where
@@ -89,19 +88,19 @@ module _ (crc : Bytes → ℕ) (k : Core) (t : Tally) (h : PageHeader) (l body c
 
     pub sound-refused : {lens : List ℕ} {why : Refusal}
         → Times (Untimed why) lens k h (measured (countOf (k .streams)) (packetsBy (k .pending) (first .values) (first .bytes) l body now))
-        → AudioIs (Refused why) now ends sizes kept (lateFed (readings crc) (readerOf k t) lent (pageIn h l body))
+        → FedIs (lateFed (readings crc) (readerOf k t) lent (pageWith h l body)) (toldAudio (Refused why)) now ends sizes kept
     unfolding whole rest
     sound-refused {lens} {why} m =
         let told = m .tells ∙ ap (λ (ps : List Bytes). timedBy (measured (countOf (k .streams)) ps) k h) packets-are ∙ judges crc k h few packets in
         late-by (completing packets (restOf tail body)) (s .fitting .audio) sees
-        (refused (readings crc) k t h l body lent packets (restOf tail body) told appends)
+        (refused (readings crc) k t h l body lent packets (restOf tail body) why told appends)
 
     pub sound-accepted : {lens : List ℕ} {i d skip : ℕ} {w : Placed} {es ss ks later : List ℕ} {after : Core} {counts : Counts}
         → Times (Packets i d w) lens k h (measured (countOf (k .streams)) (packetsBy (k .pending) (first .values) (first .bytes) l body now))
         → Lists skip es ss ks (t .skip) (take i lens) (entries (t .skip) (isLastPage (h .flags)) (h .granule) (w .from) (take i lens)) ends sizes kept
         → later ≡ withRest (restOf left body) now → counts ≡ countsBy i d w (t .skip) (isLastPage (h .flags)) (h .granule)
         → after ≡ nextCore k h (begunBy left) (At (h .granule))
-        → AudioIs (Accepted after (record { skip = skip }) counts) later es ss ks (lateFed (readings crc) (readerOf k t) lent (pageIn h l body))
+        → FedIs (lateFed (readings crc) (readerOf k t) lent (pageWith h l body)) (toldAudio (Accepted after (record { skip = skip }) counts)) later es ss ks
     unfolding whole rest carryAfter
     sound-accepted {lens} {i} {d} {skip} {w} {es} {ss} {ks} {later} {after} {counts} m x c z a =
         let told = m .tells ∙ ap (λ (ps : List Bytes). timedBy (measured (countOf (k .streams)) ps) k h) packets-are ∙ judges crc k h few packets in
@@ -119,7 +118,7 @@ module _ (crc : Bytes → ℕ) (k : Core) (t : Tally) (h : PageHeader) (l body c
   pub silent-page : (bytes left : ℕ) {now later : List ℕ} {after : Core} → Silent k bytes left l body carry ends sizes kept
       → now ≡ appended Audio carried (take bytes body) carry → later ≡ withRest (restOf (freshBy (k .pending) left) body) now
       → after ≡ nextCore k h (stillBy (k .pending) left) (k .position)
-      → AudioIs (Accepted after t noCounts) later ends sizes kept (lateFed (readings crc) (readerOf k t) lent (pageIn h l body))
+      → FedIs (lateFed (readings crc) (readerOf k t) lent (pageWith h l body)) (toldAudio (Accepted after t noCounts)) later ends sizes kept
   unfolding whole rest carryAfter
   silent-page bytes left {now} {later} {after} s n c a =
       let o : Open 0 l (firstFrom 0 l) = ways 0 l .1 (s .undone) in

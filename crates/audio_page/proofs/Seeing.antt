@@ -23,8 +23,9 @@ use Rattle.stream.specs.State.{Carried, nothing, dropped, held}
 use Rattle.stream.specs.Packets.{Seen, join, begun}
 use Rattle.stream.specs.Feed.{carriedIn, pendingOf, firstPiece, newRest, appended}
 use Rattle.stream.proofs.Pieces.{onwards}
-use Rattle.audio_page.specs.Code.{firstFrom, tailBy, packetsBy, heldEnd, restOf, begunBy, stillBy, freshBy}
+use Rattle.audio_page.specs.Code.{firstFrom, packetsBy, heldEnd, restOf, begunBy, stillBy, freshBy}
 use Rattle.audio_page.proofs.Splitting.{Ended, Open}
+use Rattle.page_checks.specs.Scan.{tailBy}
 
 -- ---- the rest is the end of the body
 
@@ -101,17 +102,17 @@ module _ (l body carry : Bytes) (sums : total l ≡ length body) (e : Ended 0 l 
   tail-after : (h : ℕ) → unfinishedFrom h l ≡ unfinishedFrom 0 (drop k l)
   tail-after h = let z : h ≡ h + 0 = omega arith in ap (λ (n : ℕ). unfinishedFrom n l) z ∙ e .tail h
 
-  pub tail-here : (pending : Pending) → tailBy pending k l ≡ unfinishedFrom 0 l
+  pub tail-here : (pending : Pending) → tailBy pending l ≡ unfinishedFrom 0 l
   tail-here Nothing = refl
   tail-here (Held n) = tail-after n ∙ sym (tail-after 0)
-  tail-here Dropped = sym (tail-after 0)
+  tail-here Dropped = ap (unfinishedFrom 0) (e .after) ∙ sym (tail-after 0)
 
-  rest-here : (pending : Pending) → restFrom 0 l body ≡ restOf (tailBy pending k l) body
+  rest-here : (pending : Pending) → restFrom 0 l body ≡ restOf (tailBy pending l) body
   rest-here pending = rest-is l body sums ∙ ap (λ (t : ℕ). restOf t body) (sym (tail-here pending))
 
   pub ended : (pending : Pending) → heldEnd pending b ≤ length carry
       → join (carriedIn pending carry) (wholeFrom 0 l body) (restFrom 0 l body)
-      ≡ completing (packetsBy pending k b l body (appended Audio (carriedIn pending carry) (take b body) carry)) (restOf (tailBy pending k l) body)
+      ≡ completing (packetsBy pending k b l body (appended Audio (carriedIn pending carry) (take b body) carry)) (restOf (tailBy pending l) body)
   unfolding join
   ended Nothing room =
       ap (λ (ws : List Bytes). join nothing ws (restFrom 0 l body)) (e .whole body)
@@ -127,7 +128,7 @@ module _ (l body carry : Bytes) (sums : total l ≡ length body) (e : Ended 0 l 
   pub first-ended : firstPiece (wholeFrom 0 l body) (restFrom 0 l body) ≡ take b body
   first-ended = ap (λ (ws : List Bytes). firstPiece ws (restFrom 0 l body)) (e .whole body)
 
-  pub rest-ended : (pending : Pending) → newRest (carriedIn pending carry) (wholeFrom 0 l body) (restFrom 0 l body) ≡ restOf (tailBy pending k l) body
+  pub rest-ended : (pending : Pending) → newRest (carriedIn pending carry) (wholeFrom 0 l body) (restFrom 0 l body) ≡ restOf (tailBy pending l) body
   rest-ended Nothing = rest-here Nothing
   rest-ended (Held n) = ap (λ (ws : List Bytes). newRest (held n (take n carry)) ws (restFrom 0 l body)) (e .whole body) ∙ rest-here (Held n)
   rest-ended Dropped = ap (λ (ws : List Bytes). newRest dropped ws (restFrom 0 l body)) (e .whole body) ∙ rest-here Dropped
@@ -161,7 +162,7 @@ module _ (l body carry : Bytes) (sums : total l ≡ length body) (o : Open 0 l (
           let z : length body - ob ≡ 0 = omega (arith, all-body) in
           rw z (sym (take-all ob body (omega (arith, all-body))))
 
-  pub rest-open : (pending : Pending) → newRest (carriedIn pending carry) (wholeFrom 0 l body) (restFrom 0 l body) ≡ restOf (freshBy pending (tailBy pending (firstFrom 0 l .values) l)) body
+  pub rest-open : (pending : Pending) → newRest (carriedIn pending carry) (wholeFrom 0 l body) (restFrom 0 l body) ≡ restOf (freshBy pending (tailBy pending l)) body
   unfolding restOf
   rest-open Nothing = rest-is l body sums
   rest-open (Held n) = ap (λ (ws : List Bytes). newRest (held n (take n carry)) ws (restFrom 0 l body)) (o .whole body)
@@ -171,7 +172,7 @@ module _ (l body carry : Bytes) (sums : total l ≡ length body) (o : Open 0 l (
   pub record Carries (pending : Pending) : Type 0 where
     pub left : Carried
     pub seen : join (carriedIn pending carry) (wholeFrom 0 l body) (restFrom 0 l body) ≡ going left
-    pub still : pendingOf left ≡ stillBy pending (tailBy pending (firstFrom 0 l .values) l)
+    pub still : pendingOf left ≡ stillBy pending (tailBy pending l)
 
   held-on : (n : ℕ) (r : Option Bytes) (h : Bytes) → (c : Carried) × ((join (held n h) [] r ≡ going c) × (pendingOf c ≡ Held (n + length (firstPiece [] r))))
   unfolding join

@@ -15,8 +15,8 @@ use Rattle.granule.specs.Judging.{judge, judgeChecks, placed, toldJudged}
 use Rattle.granule.proofs.Placing.{placed-fits}
 use Rattle.stream.specs.declared.Core.{Core}
 use Rattle.stream.specs.Page.{isLastPage}
-use Rattle.audio_page.specs.declared.Lengths.the-variants.{All, Refused}
-use Rattle.audio_page.specs.declared.Timed.the-variants.{Packets, Refused as Untimed}
+use Rattle.audio_page.specs.declared.packets.Lengths.the-variants.{All, Refused}
+use Rattle.audio_page.specs.declared.times.Timed.the-variants.{Packets, Refused as Untimed}
 use Rattle.audio_page.specs.Code.{Measures, timedBy, Times}
 
 -- what is told of the sum of the lengths

@@ -1,24 +1,19 @@
 -- One lacing value more, shared by every loop over them, and what a turn of `first_piece` keeps. Assumes nothing.
 use Prim.Native.Nat.{ℕ, _+_, _<_, _≤_}
-use mathlib.Core.Path.{_≡_, ap, _∙_}
+use mathlib.Core.Path.{_≡_, ap}
 use mathlib.Core.Bool.{true, false}
 use mathlib.Core.List.{List, [], _∷_}
-use native.Mathlib.Numerals.{add-one}
 use native.Mathlib.Omega.{arith}
 use borrow.Author.Tests.{lt-ltb, le-ltb}
 use lib.ListN.{length, getD, drop}
-use lib.Seq.{drop-cons}
 use Rattle.octets.specs.Octets.{total}
-use Rattle.audio_page.specs.declared.Piece.{Piece}
+use Rattle.audio_page.specs.declared.packets.Piece.{Piece}
 use Rattle.audio_page.specs.Code.{firstFrom}
+use Rattle.page_checks.proofs.Values.{next}
 
-module _ (l : List ℕ) (i v : ℕ) (in-l : i < length l) (e : v ≡ getD l i 0) where
-  pub next : drop i l ≡ v ∷ drop (i + 1) l
-  next = drop-cons l i 0 in-l ∙ rw (← e, add-one)
-
-  pub total-next : total (drop i l) ≡ v + total (drop (i + 1) l)
-  unfolding total
-  total-next = rw next
+pub total-next : (l : List ℕ) (i v : ℕ) → i < length l → v ≡ getD l i 0 → total (drop i l) ≡ v + total (drop (i + 1) l)
+unfolding total
+total-next l i v in-l e = rw (next l i v in-l e)
 
 -- i values more in front
 abbrev pub past : ℕ → Piece → Piece

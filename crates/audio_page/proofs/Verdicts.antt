@@ -12,7 +12,7 @@ use Rattle.octets.specs.Octets.{Bytes, total}
 use Rattle.refusal.specs.declared.Refusal.{Refusal}
 use Rattle.refusal.specs.declared.Refusal.the-variants.{IllegalPacket, MixedLengths}
 use Rattle.refusal.specs.Checks.{Check, _when_, firstOf, orElse}
-use Rattle.refusal.specs.Told.{Told, gives, refuses, decided}
+use Rattle.refusal.specs.Told.{Told, gives, decided}
 use Rattle.refusal.proofs.Checks.{first-of-append}
 use Rattle.ogg_page.specs.declared.PageHeader.{PageHeader}
 use Rattle.opus_packet.specs.Streams.{lengthsOf, isIllegal, isMixed, firstLength, readPacket}

@@ -13,7 +13,6 @@ use Rattle.refusal.specs.Checks.{Check, firstOf}
 use Rattle.refusal.specs.Told.{Told, gives, refuses}
 use Rattle.refusal.specs.Numbers.{numberOf}
 use Rattle.ogg_page.specs.declared.PageHeader.{PageHeader}
-use Rattle.ogg_page.specs.Lacing.{unfinishedFrom}
 use Rattle.opus_packet.specs.Streams.{readPacket}
 use Rattle.granule.specs.declared.Position.{Position}
 use Rattle.granule.specs.declared.Placed.{Placed}
@@ -27,16 +26,15 @@ use Rattle.stream.specs.declared.Counts.{Counts}
 use Rattle.stream.specs.Page.{Page, isLastPage, wholeFrom}
 use Rattle.stream.specs.Readings.{Readings}
 use Rattle.stream.specs.State.{State}
-use Rattle.stream.specs.Packets.{Seen, seen, longFrom, isLong, audioPackets}
+use Rattle.stream.specs.Packets.{Seen, seen, isLong, audioPackets}
 use Rattle.stream.specs.Rules.{packetChecks, timeChecks}
 use Rattle.stream.specs.Feed.{Reader, view, carriedIn, Entry, Lent, listed, Fed, fedBy}
-use Rattle.audio_page.specs.declared.Piece.{Piece}
-use Rattle.audio_page.specs.declared.Scan.{Scan}
-use Rattle.audio_page.specs.declared.Scan.the-variants.{TooLong, Rest}
-use Rattle.audio_page.specs.declared.Lengths.{Lengths}
-use Rattle.audio_page.specs.declared.Lengths.the-variants.{All, Refused}
-use Rattle.audio_page.specs.declared.Timed.{Timed}
-use Rattle.audio_page.specs.declared.Timed.the-variants.{Packets, Refused as Untimed}
+use Rattle.audio_page.specs.declared.packets.Piece.{Piece}
+use Rattle.audio_page.specs.declared.packets.Lengths.{Lengths}
+use Rattle.audio_page.specs.declared.packets.Lengths.the-variants.{All, Refused}
+use Rattle.audio_page.specs.declared.times.Timed.{Timed}
+use Rattle.audio_page.specs.declared.times.Timed.the-variants.{Packets, Refused as Untimed}
+use Rattle.page_checks.specs.Scan.{tailBy}
 
 -- ---- the lacing values
 
@@ -48,22 +46,6 @@ further p = record { values = p .values + 1; bytes = p .bytes; ends = p .ends }
 unfoldable pub firstFrom : ℕ → Bytes → Piece
 firstFrom n [] = record { values = 0; bytes = n; ends = false }
 firstFrom n (v ∷ l) = pick (ltb v 255) (record { values = 1; bytes = n + v; ends = true }) (further (firstFrom (n + v) l))
-
--- 9, or the bytes of the unfinished packet
-abbrev pub scanOf : ℕ → Bytes → Scan
-scanOf n l = pick (longFrom n l) TooLong (Rest (unfinishedFrom n l))
-
--- by what is pending; `values` are those of the first piece
-abbrev pub scanBy : Pending → ℕ → Bytes → Scan
-scanBy Nothing values l = scanOf 0 l
-scanBy (Held n) values l = scanOf n l
-scanBy Dropped values l = scanOf 0 (drop values l)
-
--- the bytes of the unfinished packet
-abbrev pub tailBy : Pending → ℕ → Bytes → ℕ
-tailBy Nothing values l = unfinishedFrom 0 l
-tailBy (Held n) values l = unfinishedFrom n l
-tailBy Dropped values l = unfinishedFrom 0 (drop values l)
 
 -- 11
 abbrev pub granuleWrong : Bool → ℕ → Bool
@@ -251,7 +233,7 @@ pub record Fitting (k : Core) (l body cs es ss ks : List ℕ) : Type 0 where
 pub record Scanned (k : Core) (l : Bytes) (carry : List ℕ) (first : Piece) (rest : ℕ) : Type 0 where
   pub piece : first ≡ firstFrom 0 l
   pub short : isLong (carriedIn (k .pending) carry) l ≡ false
-  pub tail : rest ≡ tailBy (k .pending) (firstFrom 0 l .values) l
+  pub tail : rest ≡ tailBy (k .pending) l
 
 -- a packet completes
 pub record Sounding (k : Core) (h : PageHeader) (first : Piece) (rest : ℕ) (l body carry ends sizes kept : List ℕ) : Type 0 where
@@ -267,5 +249,5 @@ pub record Sounding (k : Core) (h : PageHeader) (first : Piece) (rest : ℕ) (l 
 pub record Silent (k : Core) (bytes rest : ℕ) (l body carry ends sizes kept : List ℕ) : Type 0 where
   pub fitting : Fitting k l body carry ends sizes kept
   pub piece : bytes ≡ firstFrom 0 l .bytes
-  pub tail : rest ≡ tailBy (k .pending) (firstFrom 0 l .values) l
+  pub tail : rest ≡ tailBy (k .pending) l
   pub undone : firstFrom 0 l .ends ≡ false

@@ -7,10 +7,9 @@ use Rattle.octets.specs.Octets.{Bytes}
 use Rattle.refusal.specs.Told.{Told, gives, refuses, retold, numberIn}
 use Rattle.opus_head.specs.declared.Head.{Head}
 use Rattle.stream.specs.declared.Counts.{Counts}
-use Rattle.stream.specs.Feed.{Reader, openPartWay, Lent, Taken}
+use Rattle.stream.specs.Feed.{Reader, openPartWay, Lent, lentOf, Taken}
 use Rattle.reader.specs.declared.StateOpened.{StateOpened}
 use Rattle.reader.specs.declared.StateFed.{StateFed}
-use Rattle.reader.specs.Answers.{lentOf}
 use Rattle.reader.specs.Numbers.{numbersOf, openedNumber, numbersOpened, StateOpenedIs, toldState, numbersAfter, StateFedIs}
 use Rattle.embulgri.specs.Answers.{stored, fitting, headFrom}
 use Rattle.embulgri.specs.Feeding.{openTold, OpenedIn, pageRecord, fedOf, FedIn}

@@ -1,11 +1,12 @@
 -- The pieces of a lacing list: a value of 255 goes on, a smaller one ends a packet (RFC 3533, 5 and 6; document 01,
 -- "Page and lacing"). Assumes nothing.
 use Prim.Native.Nat.{ℕ, _+_}
+use mathlib.Core.Bool.{Bool, _&&_}
 use mathlib.Core.List.{List, [], _∷_}
-use lib.Dec.{ltb}
-use lib.ListN.{take, drop}
+use lib.Dec.{ltb, leb, eqb}
+use lib.ListN.{length, take, drop}
 use Rattle.octets.specs.Pick.{pick}
-use Rattle.octets.specs.Octets.{Bytes}
+use Rattle.octets.specs.Octets.{Bytes, total}
 
 -- the lengths of the packets that end here, in order; n bytes belong to values already read, all of them 255
 unfoldable pub endedFrom : ℕ → Bytes → List ℕ
@@ -39,3 +40,7 @@ cutFrom n (v ∷ l) body =
 
 abbrev pub cut : Bytes → Bytes → Cut
 cut l body = cutFrom 0 l body
+
+-- lacing values that a page can have, and a body of as many bytes as they say
+unfoldable pub isBody : Bytes → Bytes → Bool
+isBody l body = leb (length l) 255 && eqb (total l) (length body)

@@ -1,5 +1,5 @@
 pub mod Fields
-pub mod Long
+pub mod Scanning
 pub mod OnePiece
 pub mod Pieces
 pub mod Values

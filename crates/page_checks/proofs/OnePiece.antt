@@ -8,8 +8,8 @@ use native.Mathlib.Omega.{arith}
 use borrow.Author.Tests.{lt-ltb, le-ltb}
 use lib.ListN.{length}
 use Rattle.octets.specs.Octets.{Bytes}
-use Rattle.page_checks.specs.declared.Shape.{Shape}
-use Rattle.page_checks.specs.declared.Shape.the-variants.{Ends, GoesOn, Other}
+use Rattle.page_checks.specs.declared.lacing.Shape.{Shape}
+use Rattle.page_checks.specs.declared.lacing.Shape.the-variants.{Ends, GoesOn, Other}
 use Rattle.page_checks.specs.Shape.{shapeBehind, shapeFrom}
 
 -- what there is where i values, none of which ends a packet, are all

@@ -15,8 +15,8 @@ use Rattle.ogg_page.specs.Lacing.{unfinishedFrom, cutFrom}
 use Rattle.stream.specs.Page.{Page, wholeFrom, restFrom, whole, rest}
 use Rattle.stream.specs.Rules.{onePiece}
 use Rattle.stream.proofs.Pieces.{onwards}
-use Rattle.page_checks.specs.declared.Shape.{Shape}
-use Rattle.page_checks.specs.declared.Shape.the-variants.{Ends, GoesOn, Other}
+use Rattle.page_checks.specs.declared.lacing.Shape.{Shape}
+use Rattle.page_checks.specs.declared.lacing.Shape.the-variants.{Ends, GoesOn, Other}
 use Rattle.page_checks.specs.Shape.{shapeBehind, shapeFrom, shapeOf}
 
 -- the pieces of a page of this shape

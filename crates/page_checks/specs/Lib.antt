@@ -1,2 +1,3 @@
 pub mod Checked
+pub mod Scan
 pub mod Shape

@@ -3,8 +3,8 @@ use mathlib.Core.List.{[], _∷_}
 use lib.Dec.{ltb}
 use Rattle.octets.specs.Pick.{pick}
 use Rattle.octets.specs.Octets.{Bytes}
-use Rattle.page_checks.specs.declared.Shape.{Shape}
-use Rattle.page_checks.specs.declared.Shape.the-variants.{Ends, GoesOn, Other}
+use Rattle.page_checks.specs.declared.lacing.Shape.{Shape}
+use Rattle.page_checks.specs.declared.lacing.Shape.the-variants.{Ends, GoesOn, Other}
 
 -- a packet has ended, and these values follow
 abbrev pub shapeBehind : Bytes → Shape

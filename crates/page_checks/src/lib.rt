@@ -1,35 +1,27 @@
-// The checks of a page that look at its fields and its lacing values alone, against what a reader expects (document 01,
-// refusals 5 to 9, and the shape that 10 asks of a header page). Every function is total.
+// What the stages of feeding share: the checks of a page's fields and lacing values against what a reader expects (document
+// 01, refusals 5 to 9, and the shape that 10 asks of a header page), and the lent memory.
 ghost use mathlib.Core.Path.{_≡_};
 ghost use mathlib.Core.Bool.{not, _&&_, _||_, Bool·beq};
 ghost use mathlib.Core.List.{[], _∷_};
-ghost use Prim.Native.Nat.{_≤_};
-ghost use lib.ListN.{length, drop};
 ghost use Rattle.octets.specs.Octets.{Bytes};
 ghost use Rattle.refusal.specs.Checks.{_when_, firstOf, orElse};
-ghost use Rattle.stream.specs.Page.{isContinued, isFirstPage, isLastPage};
-ghost use Rattle.stream.specs.State.{isFirst, isEnded, inHeaders, expecting};
-ghost use Rattle.stream.specs.Packets.{longFrom, afterFirst, isLong};
+ghost use Rattle.stream.specs.Page.{isContinued, isFirstPage, isLastPage, pageWith};
+ghost use Rattle.stream.specs.State.{isFirst, isAudio, isEnded, inHeaders, expecting};
 ghost use Rattle.stream.specs.Rules.{wrongFlags, fieldChecks};
-ghost use Rattle.stream.specs.Feed.{carriedIn, view};
-ghost use Rattle.page_checks.specs.Checked.{found, pageWith, isPending};
-ghost use Rattle.page_checks.specs.Shape.{shapeOf};
+ghost use Rattle.stream.specs.Feed.{view};
+ghost use Rattle.page_checks.specs.Checked.{found, isPending};
 use ogg_page::PageHeader;
 use refusal::Refusal;
 use stream::Core;
 use stream::Pending;
 use stream::Phase;
 
+pub mod lacing;
+pub mod lent;
+
 pub enum Checked {
     Passed,
     Refused(Refusal),
-}
-
-// What a page is of one packet: its last piece and nothing else, a piece that goes on and nothing else, or something else.
-pub enum Shape {
-    Ends,
-    GoesOn,
-    Other,
 }
 
 // ---- marks and phases
@@ -59,6 +51,18 @@ pub fn is_first(phase: Phase) -> bool
         Phase::First => true,
         Phase::Comment => false,
         Phase::Audio => false,
+        Phase::Opened => false,
+        Phase::Ended => false,
+    }
+}
+
+pub fn is_audio(phase: Phase) -> bool
+    ensures { λ r. ⌜ r ≡ isAudio phase ⌝ }
+{
+    match phase {
+        Phase::First => false,
+        Phase::Comment => false,
+        Phase::Audio => true,
         Phase::Opened => false,
         Phase::Ended => false,
     }
@@ -199,80 +203,4 @@ pub fn expected(core: Core, h: PageHeader) -> Core
         Phase::Audio => core,
         Phase::Ended => core,
     }
-}
-
-// ---- the lacing values
-
-const PACKET_MAX: usize = 61440;
-
-// Whether a packet passes the bound, by the values from `from` on, `held` bytes of the first one being held.
-fn long_from(lacing: &[u8], from: usize, held: usize) -> bool
-    requires { ⌜ from ≤ length (now lacing) ⌝ }
-    ensures { λ r. ⌜ r ≡ longFrom held (drop from (now (lacing .entry))) ⌝ }
-{
-    let mut bytes = held;
-    let mut i = from;
-    while i < lacing.len() {
-        if bytes > PACKET_MAX {
-            return true;
-        }
-        let v = octets::wide(lacing[i]);
-        bytes += v;
-        if v < 255 {
-            if bytes > PACKET_MAX {
-                return true;
-            }
-            bytes = 0;
-        }
-        i += 1;
-    }
-    bytes > PACKET_MAX
-}
-
-// The place after the first value that ends a packet.
-fn after_first(lacing: &[u8]) -> usize
-    ensures { λ r. ⌜ (drop r (now (lacing .entry)) ≡ afterFirst (now (lacing .entry))) × (r ≤ length (now (lacing .entry))) ⌝ }
-{
-    let mut i = 0;
-    while i < lacing.len() {
-        if lacing[i] < 255 {
-            return i + 1;
-        }
-        i += 1;
-    }
-    i
-}
-
-// 9. A dropped packet is not measured.
-pub fn is_long(pending: Pending, lacing: &[u8]) -> bool
-    ensures { λ r. ⌜ ((carry : Bytes) → r ≡ isLong (carriedIn pending carry) (now (lacing .entry))) ⌝ }
-{
-    match pending {
-        Pending::Nothing => long_from(lacing, 0, 0),
-        Pending::Held(n) => long_from(lacing, 0, n),
-        Pending::Dropped => {
-            let from = after_first(lacing);
-            long_from(lacing, from, 0)
-        }
-    }
-}
-
-// Whether the values are those of one piece, and whether that ends a packet.
-pub fn shape_of(lacing: &[u8]) -> Shape
-    ensures { λ r. ⌜ r ≡ shapeOf (now (lacing .entry)) ⌝ }
-{
-    let mut i = 0;
-    while i < lacing.len() {
-        if lacing[i] < 255 {
-            if i + 1 < lacing.len() {
-                return Shape::Other;
-            }
-            return Shape::Ends;
-        }
-        i += 1;
-    }
-    if i == 0 {
-        return Shape::Other;
-    }
-    Shape::GoesOn
 }

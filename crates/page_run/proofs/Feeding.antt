@@ -1,6 +1,6 @@
 -- One page fed with the parts of the lists past the places filled, and the whole lists again. Assumes nothing.
 use Prim.Native.Nat.{ℕ, _+_, _-_, _≤_}
-use mathlib.Core.Path.{_≡_, sym, ap, _∙_}
+use mathlib.Core.Path.{_≡_, sym, _∙_}
 use mathlib.Core.Bool.{false, true}
 use mathlib.Core.List.{List, _++_, append-nil}
 use mathlib.Core.Option.{none, some}
@@ -8,16 +8,11 @@ use native.Mathlib.Omega.{arith}
 use lib.ListN.{length, take, drop, length-drop, drop-of-length-le}
 use lib.Seq.{take-all}
 use Rattle.octets.specs.Octets.{Bytes, Octets}
-use Rattle.refusal.specs.declared.Refusal.{Refusal}
-use Rattle.refusal.specs.Numbers.{numberOf}
-use Rattle.refusal.specs.Told.{gives}
+use Rattle.refusal.specs.Told.{Told, gives, refuses}
 use Rattle.stream.specs.declared.Counts.{Counts}
 use Rattle.stream.specs.Readings.{Readings}
-use Rattle.stream.specs.Feed.{Lent, feed}
-use Rattle.reader.specs.declared.Reader.{Reader}
-use Rattle.reader.specs.declared.Fed.{Fed}
-use Rattle.reader.specs.declared.Fed.the-variants.{Accepted, Refused}
-use Rattle.reader.specs.Answers.{knownAs, toldFed, lentOf, FedIs}
+use Rattle.stream.specs.Feed.{Reader as Known, Lent, lentOf, Taken, FedIs, feed}
+use Rattle.reader.specs.Answers.{knownAs}
 use Rattle.page_run.specs.declared.Progress.{Progress}
 use Rattle.page_run.specs.Run.{endAt, isFull, past, whole, added, refused, cut, full, goes, stops, turn, Fits}
 use Rattle.page_run.specs.Answers.{reached}
@@ -53,18 +48,18 @@ module _ (R : Readings) (b : Bytes) (p : Progress) (m : Lent) where
     unfolding turn
     turn-cut e = rw (places, e)
 
-    module _ (e : ℕ) (ends-at : endAt b (p .bytes) ≡ some e) {f : Fed} {carry : Bytes} {ends sizes kept : List ℕ}
-        (is : FedIs (feed R (knownAs (p .reader)) (lentOf (m .carry) (behind (p .packets) (m .ends)) (behind (p .packets) (m .sizes)) (behind (p .packets) (m .kept))) (take (e - p .bytes) (drop (p .bytes) b))) f carry ends sizes kept) where
+    module _ (e : ℕ) (ends-at : endAt b (p .bytes) ≡ some e) {t : Told Taken} {carry : Bytes} {ends sizes kept : List ℕ}
+        (is : FedIs (feed R (knownAs (p .reader)) (lentOf (m .carry) (behind (p .packets) (m .ends)) (behind (p .packets) (m .sizes)) (behind (p .packets) (m .kept))) (take (e - p .bytes) (drop (p .bytes) b))) t carry ends sizes kept) where
       same : lentOf (m .carry) (behind (p .packets) (m .ends)) (behind (p .packets) (m .sizes)) (behind (p .packets) (m .kept)) ≡ past (p .packets) m
       same = rw (behind-all (p .packets) (m .ends), behind-all (p .packets) (m .sizes), behind-all (p .packets) (m .kept))
 
-      by-parts : FedIs (feed R (knownAs (p .reader)) (past (p .packets) m) (take (e - p .bytes) (drop (p .bytes) b))) f carry ends sizes kept
+      by-parts : FedIs (feed R (knownAs (p .reader)) (past (p .packets) m) (take (e - p .bytes) (drop (p .bytes) b))) t carry ends sizes kept
       by-parts = rw same at is
 
       abbrev end : Lent
       end = lentOf carry (back (p .packets) (m .ends) ends) (back (p .packets) (m .sizes) sizes) (back (p .packets) (m .kept) kept)
 
-      pub turn-refused : {why : Refusal} → f ≡ Refused why → stops (refused (numberOf why)) end ≡ turn R b (reached p) m
+      pub turn-refused : {n : ℕ} → t ≡ refuses n → stops (refused n) end ≡ turn R b (reached p) m
       unfolding turn
       turn-refused q =
           rw (
@@ -81,8 +76,8 @@ module _ (R : Readings) (b : Bytes) (p : Progress) (m : Lent) where
             back-all (p .packets) (m .kept) kept,
           )
 
-      pub turn-accepted : {next : Reader} {c : Counts} → f ≡ Accepted next c
-          → goes (record { reader = knownAs next; bytes = e; pages = p .pages + 1; packets = p .packets + c .packets; sums = added (p .sums) c }) end ≡ turn R b (reached p) m
+      pub turn-accepted : {next : Known} {c : Counts} → t ≡ gives (record { reader = next; counts = c })
+          → goes (record { reader = next; bytes = e; pages = p .pages + 1; packets = p .packets + c .packets; sums = added (p .sums) c }) end ≡ turn R b (reached p) m
       unfolding turn
       turn-accepted q =
           rw (
@@ -100,11 +95,11 @@ module _ (R : Readings) (b : Bytes) (p : Progress) (m : Lent) where
           )
 
       -- at most 255 packets
-      module _ (o : Octets b) (fits : Fits (reached p) b m) {next : Reader} {c : Counts} (q : f ≡ Accepted next c) where
-        gave : feed R (knownAs (p .reader)) (past (p .packets) m) (take (e - p .bytes) (drop (p .bytes) b)) .told ≡ gives (record { reader = knownAs next; counts = c })
-        gave = sym (by-parts .told) ∙ ap toldFed q
+      module _ (o : Octets b) (fits : Fits (reached p) b m) {next : Known} {c : Counts} (q : t ≡ gives (record { reader = next; counts = c })) where
+        gave : feed R (knownAs (p .reader)) (past (p .packets) m) (take (e - p .bytes) (drop (p .bytes) b)) .told ≡ gives (record { reader = next; counts = c })
+        gave = sym (by-parts .told) ∙ q
 
         pub few-packets : c .packets ≤ 255
         few-packets =
-            let is = shows R b o (reached p) m fits e (record { reader = knownAs next; counts = c }) gave in
+            let is = shows R b o (reached p) m fits e (record { reader = next; counts = c }) gave in
             omega (arith, is .packets, is .few)

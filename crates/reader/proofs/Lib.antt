@@ -1,7 +1,3 @@
-pub mod HeaderPages
-pub mod Late
-pub mod HeadPage
-pub mod CommentPage
-pub mod AudioPage
 pub mod Pages
+pub mod Joining
 pub mod States

@@ -1,12 +1,11 @@
 -- A reader's numbers stand for the reader, and what a feeding leaves in them. Assumes nothing.
 use Prim.Native.Nat.{ℕ, _%_, _<_}
-use mathlib.Core.Path.{_≡_, refl, sym, ap, _∙_}
+use mathlib.Core.Path.{_≡_, refl, ap, _∙_}
 use mathlib.Core.List.{List}
 use native.Mathlib.Omega.{arith}
-use lib.ListN.{getD}
 use Rattle.octets.specs.Octets.{Bytes}
 use Rattle.refusal.specs.declared.Refusal.{Refusal}
-use Rattle.refusal.specs.Told.{Told, gives, refuses, retold}
+use Rattle.refusal.specs.Told.{Told, gives, refuses}
 use Rattle.granule.specs.declared.Position.{Position}
 use Rattle.granule.specs.declared.Position.the-variants.{Unset, Joined, At}
 use Rattle.stream.specs.declared.Phase.{Phase}
@@ -14,14 +13,14 @@ use Rattle.stream.specs.declared.Phase.the-variants.{First, Comment, Audio, Ope
 use Rattle.stream.specs.declared.Pending.{Pending}
 use Rattle.stream.specs.declared.Pending.the-variants.{Nothing, Held, Dropped}
 use Rattle.stream.specs.declared.Counts.{Counts}
-use Rattle.stream.specs.Feed.{Reader as Known, Taken, Fed as Outcome}
+use Rattle.stream.specs.Feed.{Reader as Known, Taken, Fed as Outcome, FedIs}
 use Rattle.stream.specs.Feedings.{heldOf}
 use Rattle.reader.specs.declared.Reader.{Reader}
 use Rattle.reader.specs.declared.Opened.the-variants.{At as Opened-at, Refused as Unopened}
 use Rattle.reader.specs.declared.StateOpened.the-variants.{Done, Refused as NotOpened}
 use Rattle.reader.specs.declared.Fed.the-variants.{Accepted, Refused}
 use Rattle.reader.specs.declared.StateFed.the-variants.{Accepted as Taken-in, Refused as Turned-away}
-use Rattle.reader.specs.Answers.{knownAs, toldOpened, FedIs}
+use Rattle.reader.specs.Answers.{knownAs, toldOpened, toldFed}
 use Rattle.reader.specs.Numbers.{phaseNumber, pendingNumber, positionNumber, granuleIn, numbersOf, made, StandFor, phaseFrom, pendingFrom, positionFrom, readerFrom, StateOpenedIs, StateFedIs}
 
 phase-back : (ph : Phase) → phaseFrom (phaseNumber ph) ≡ ph
@@ -84,9 +83,9 @@ readerIn (gives t) other = t .reader
 readerIn (refuses n) other = other
 
 module _ {f : Outcome} {old : List ℕ} {carry : Bytes} {ends sizes kept : List ℕ} where
-  pub state-accepted : {new : List ℕ} {next : Reader} {counts : Counts} → FedIs f (Accepted next counts) carry ends sizes kept → StandFor new (knownAs next)
+  pub state-accepted : {new : List ℕ} (next : Reader) (counts : Counts) → FedIs f (toldFed (Accepted next counts)) carry ends sizes kept → StandFor new (knownAs next)
       → StateFedIs f (Taken-in counts) old new carry ends sizes kept
-  state-accepted {new} {next} {counts} is s = record {
+  state-accepted {new} next counts is s = record {
     told = rw (← is .told);
     numbers = rw (← is .told) (s .numbers);
     stand = λ t e. s .back ∙ ap (λ (x : Told Taken). readerIn x (knownAs next)) (is .told ∙ e);
@@ -96,8 +95,8 @@ module _ {f : Outcome} {old : List ℕ} {carry : Bytes} {ends sizes kept : List 
     keeps = is .keeps;
   }
 
-  pub state-refused : {why : Refusal} → FedIs f (Refused why) carry ends sizes kept → StateFedIs f (Turned-away why) old old carry ends sizes kept
-  state-refused {why} is = record {
+  pub state-refused : (why : Refusal) → FedIs f (toldFed (Refused why)) carry ends sizes kept → StateFedIs f (Turned-away why) old old carry ends sizes kept
+  state-refused why is = record {
     told = rw (← is .told);
     numbers = rw (← is .told);
     stand = λ t e. (let k = is .told ∙ e in (let z : _≡_ {A = ℕ} 0 1 = cc in absurd (omega arith)));

@@ -1,110 +1,55 @@
--- Feeding after 1 to 8: what is left of the rules for a core that expects the page. Assumes nothing.
-use Prim.Native.Nat.{ℕ, _+_, _%_, _^_, _≤_}
+-- Feeding in stages: 1 and 2, then 3 to 8, which give the core that expects the page, then the rest. Assumes nothing.
+use Prim.Native.Nat.{ℕ}
 use mathlib.Core.Path.{_≡_}
-use mathlib.Core.Bool.{Bool, true, false, _||_}
+use mathlib.Core.Bool.{true, false}
 use mathlib.Core.List.{List, [], _∷_, _++_}
-use mathlib.Core.Option.{none, some}
-use lib.Dec.{ltb}
 use Rattle.octets.specs.Octets.{Bytes}
 use Rattle.refusal.specs.declared.Refusal.the-variants.{ShortRoom, AfterEnd}
 use Rattle.refusal.specs.Checks.{Check, _when_, firstOf}
+use Rattle.refusal.specs.Numbers.{numberOf}
+use Rattle.refusal.specs.Told.{Told, refuses}
 use Rattle.ogg_page.specs.declared.PageHeader.{PageHeader}
-use Rattle.ogg_page.specs.declared.PageRead.{PageRead}
-use Rattle.ogg_page.specs.declared.PageRead.the-variants.{Page, Refused as NoPage}
-use Rattle.ogg_page.specs.Page.{headerOf}
+use Rattle.ogg_page.specs.Page.{lacingOf, bodyOf}
 use Rattle.ogg_page.specs.Reading.{isOnePage}
 use Rattle.stream.specs.declared.Phase.{Phase}
-use Rattle.stream.specs.declared.Phase.the-variants.{First, Comment, Audio, Opened, Ended}
-use Rattle.stream.specs.declared.Pending.{Pending}
-use Rattle.stream.specs.declared.Pending.the-variants.{Nothing, Held, Dropped}
 use Rattle.stream.specs.declared.Core.{Core}
-use Rattle.stream.specs.declared.Counts.{Counts}
 use Rattle.stream.specs.declared.Tally.{Tally}
-use Rattle.stream.specs.Page.{Page as Fields, pageOf}
+use Rattle.stream.specs.Page.{Page, pageWith}
 use Rattle.stream.specs.Readings.{Readings, readings}
-use Rattle.stream.specs.State.{State, isFirst, isEnded, expecting}
-use Rattle.stream.specs.Packets.{Seen, seen, packetMax, audioPackets}
-use Rattle.stream.specs.Rules.{fieldChecks, lacingChecks, headerChecks, packetChecks, timeChecks}
-use Rattle.stream.specs.Feed.{view, Lent, listMax, Fed, fedBy}
-use Rattle.page_checks.specs.declared.Shape.the-variants.{Ends, GoesOn}
-use Rattle.page_checks.specs.Shape.{shapeOf}
-use Rattle.page_checks.specs.Checked.{pageWith}
-use Rattle.reader.specs.declared.HeaderPiece.{HeaderPiece}
-use Rattle.reader.specs.declared.HeaderPiece.the-variants.{Last, Earlier, Refused}
-
--- 9 to 19
-abbrev pub lateChecks : Readings → State → Fields → Seen → List Check
-lateChecks R t p x =
-    lacingChecks t p x ++ (headerChecks R t x ++ (packetChecks R (t .streams) (audioPackets t x) ++ timeChecks R t p x))
-
-abbrev pub fedFrom : Readings → Core → Tally → Lent → State → Fields → Fed
-fedFrom R core tally m t p = fedBy (firstOf (lateChecks R t p (seen t p))) R (record { core = core; tally = tally }) m t p (seen t p)
-
--- feeding a page that has passed 1 to 8 to the core that expects it; how a checksum is worked out is a parameter still
-unfoldable pub fedLate : (Bytes → ℕ) → Core → Tally → Lent → PageHeader → Bytes → Bytes → Fed
-fedLate crc core tally m h lacing body = fedFrom (readings crc) core tally m (view core (m .carry)) (pageWith h lacing body)
-
--- feeding a page that has passed 1 to 4
-abbrev pub fedOn : Readings → Core → Tally → Lent → State → Fields → Fed
-fedOn R core tally m t p =
-    fedBy (firstOf (fieldChecks t p ++ lateChecks R t p (seen t p))) R (record { core = core; tally = tally }) m t p (seen t p)
-
-unfoldable pub fedPage : (Bytes → ℕ) → Core → Tally → Lent → Bytes → Fed
-fedPage crc core tally m b = fedOn (readings crc) core tally m (expecting (view core (m .carry)) (pageOf b)) (pageOf b)
-
--- the core of a reader that expects a page, and has not ended
-abbrev pub Ready : Phase → Pending → Type 0
-Ready First pending = pending ≡ Nothing
-Ready Comment pending = Unit {0}
-Ready Audio pending = Unit {0}
-Ready Opened pending = ⊥
-Ready Ended pending = ⊥
-
--- 1, by the lengths of what is lent
-abbrev pub shortBy : ℕ → ℕ → ℕ → ℕ → Bool
-shortBy carry ends sizes kept = ltb carry packetMax || (ltb ends listMax || (ltb sizes listMax || ltb kept listMax))
+use Rattle.stream.specs.State.{State, isAudio, isEnded}
+use Rattle.stream.specs.Packets.{Seen, seen, audioPackets}
+use Rattle.stream.specs.Rules.{lacingChecks, headerChecks, packetChecks, timeChecks}
+use Rattle.stream.specs.Feed.{Reader, readerOf, view, Lent, shortBy, Taken, Fed, FedIs, fedBy, feed}
+use Rattle.header_page.specs.Header.{isHeader}
+use Rattle.reader.specs.declared.stages.Due.{Due}
+use Rattle.reader.specs.declared.stages.Due.the-variants.{Page as Awaited, Refused}
 
 -- 1 and 2, before a page is read
 abbrev pub earlyChecks : Phase → ℕ → ℕ → ℕ → ℕ → List Check
 earlyChecks ph carry ends sizes kept = ShortRoom when shortBy carry ends sizes kept ∷ AfterEnd when isEnded ph ∷ []
 
--- what was read of the bytes: where it is a page, its header
-abbrev pub ReadOf : PageRead → Bytes → Type 0
-ReadOf (Page h) b = (isOnePage b ≡ true) × (h ≡ headerOf b)
-ReadOf (NoPage why) b = Unit {0}
+-- 9 to 19
+abbrev pub lateChecks : Readings → State → Page → Seen → List Check
+lateChecks R t p x =
+    lacingChecks t p x ++ (headerChecks R t x ++ (packetChecks R (t .streams) (audioPackets t x) ++ timeChecks R t p x))
 
--- ---- header pages
+abbrev pub fedFrom : Readings → Reader → Lent → State → Page → Fed
+fedFrom R r m t p = fedBy (firstOf (lateChecks R t p (seen t p))) R r m t p (seen t p)
 
--- the core after a header page
-abbrev pub headerCore : Core → PageHeader → Phase → Pending → ℕ → ℕ → Core
-headerCore core h phase pending streams preskip = record {
-  phase = phase;
-  pending = pending;
-  position = core .position;
-  serial = h .serial;
-  next = (h .sequence + 1) % 2 ^ 32;
-  streams = streams;
-  preskip = preskip;
-}
+-- feeding a page that has passed 1 to 8 to the core that expects it
+unfoldable pub fedLate : Readings → Reader → Lent → Page → Fed
+fedLate R r m p = fedFrom R r m (view (r .core) (m .carry)) p
 
--- a header page lists nothing
-abbrev pub noCounts : Counts
-noCounts = record { packets = 0; samples = 0; kept = 0; skipped = 0; trimmed = 0; hole = 0 }
+-- the bytes b are a page with the header h that has passed 1 to 8, and `due` is the core that expects it
+pub record Awaits (R : Readings) (core due : Core) (h : PageHeader) (tally : Tally) (m : Lent) (b : Bytes) : Type 0 where
+  pub one : isOnePage b ≡ true
+  pub ready : isAudio (due .phase) ≡ false → isHeader (due .phase) (due .pending) ≡ true
+  pub fed : {t : Told Taken} {carry : Bytes} {ends sizes kept : List ℕ}
+      → FedIs (fedLate R (readerOf due tally) m (pageWith h (lacingOf b) (bodyOf b))) t carry ends sizes kept
+      → FedIs (feed R (readerOf core tally) m b) t carry ends sizes kept
 
--- what is unfinished after n more bytes of it
-abbrev pub longer : Pending → ℕ → Pending
-longer Nothing n = Held n
-longer (Held k) n = Held (k + n)
-longer Dropped n = Dropped
-
--- n more bytes are within the bound
-abbrev pub Within : Pending → ℕ → Type 0
-Within Nothing n = n ≤ packetMax
-Within (Held k) n = k + n ≤ packetMax
-Within Dropped n = Unit {0}
-
--- a header page by 9 to 11: a refusal, or that it is one piece, the last of its packet or an earlier one
-abbrev pub HeaderIs : HeaderPiece → State → Fields → Type 0
-HeaderIs Last t p = (firstOf (lacingChecks t p (seen t p)) ≡ none) × (shapeOf (p .lacing) ≡ Ends)
-HeaderIs Earlier t p = (firstOf (lacingChecks t p (seen t p)) ≡ none) × ((shapeOf (p .lacing) ≡ GoesOn) × (isFirst (t .phase) ≡ false))
-HeaderIs (Refused why) t p = firstOf (lacingChecks t p (seen t p)) ≡ some why
+-- 3 to 8
+abbrev pub DueIs : Due → Readings → Core → Tally → Lent → Bytes → Type 0
+DueIs (Awaited due h) R core tally m b = Awaits R core due h tally m b
+DueIs (Refused why) R core tally m b =
+    FedIs (feed R (readerOf core tally) m b) (refuses (numberOf why)) (m .carry) (m .ends) (m .sizes) (m .kept)

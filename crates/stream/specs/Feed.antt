@@ -1,6 +1,7 @@
 -- Starting, opening part way and feeding: what each tells, the next reader, and the end contents of the carry buffer and of
 -- the three lists, for any reader, bytes and lent memory (document 01, "Refusals by number"). Assumes nothing.
 use Prim.Native.Nat.{ℕ, _+_, _-_}
+use mathlib.Core.Path.{_≡_}
 use mathlib.Core.Bool.{Bool, not, _||_}
 use mathlib.Core.List.{List, [], _∷_, _++_, map}
 use mathlib.Core.Option.{Option, none, some}
@@ -34,6 +35,9 @@ use Rattle.stream.specs.Rules.{sounds, checksOn, Stamp, startOn, nextOn}
 pub record Reader : Type 0 where
   pub core : Core
   pub tally : Tally
+
+abbrev pub readerOf : Core → Tally → Reader
+readerOf core tally = record { core = core; tally = tally }
 
 -- ---- the state that decides: the core, and the carry bytes up to the held count
 
@@ -129,6 +133,10 @@ countsOn R skip s p x = record {
   hole = pick (sounds s x) (hole (s .position) (granuleOf p) (total (lengthsOf R s x))) 0;
 }
 
+-- the record of a page that lists nothing
+abbrev pub noCounts : Counts
+noCounts = record { packets = 0; samples = 0; kept = 0; skipped = 0; trimmed = 0; hole = 0 }
+
 -- samples still to skip after the page: the first page sets them to the pre-skip
 abbrev pub skipAfter : Phase → ℕ → ℕ → ℕ → ℕ
 skipAfter First preskip skip d = preskip
@@ -151,11 +159,16 @@ pub record Lent : Type 0 where
 abbrev pub listMax : ℕ
 listMax = 255
 
+abbrev pub lentOf : Bytes → List ℕ → List ℕ → List ℕ → Lent
+lentOf carry ends sizes kept = record { carry = carry; ends = ends; sizes = sizes; kept = kept }
+
+-- 1, by the lengths of what is lent
+abbrev pub shortBy : ℕ → ℕ → ℕ → ℕ → Bool
+shortBy carry ends sizes kept = ltb carry packetMax || (ltb ends listMax || (ltb sizes listMax || ltb kept listMax))
+
 -- 1
 unfoldable pub isShort : Lent → Bool
-isShort m =
-    ltb (length (m .carry)) packetMax
-    || (ltb (length (m .ends)) listMax || (ltb (length (m .sizes)) listMax || ltb (length (m .kept)) listMax))
+isShort m = shortBy (length (m .carry)) (length (m .ends)) (length (m .sizes)) (length (m .kept))
 
 -- the first piece on the page
 abbrev pub firstPiece : List Bytes → Option Bytes → Bytes
@@ -208,6 +221,18 @@ pub record Fed : Type 0 where
   pub told : Told Taken
   pub entries : List Entry
   pub lent : Lent
+
+-- 1 is told, and all stays
+abbrev pub unfed : Lent → Fed
+unfed m = record { told = refuses (numberOf ShortRoom); entries = []; lent = m }
+
+-- what was told, and the carry buffer and the three lists at the end, are those of f
+pub record FedIs (f : Fed) (t : Told Taken) (carry : Bytes) (ends sizes kept : List ℕ) : Type 0 where
+  pub told : t ≡ f .told
+  pub held : carry ≡ f .lent .carry
+  pub ended : ends ≡ f .lent .ends
+  pub sized : sizes ≡ f .lent .sizes
+  pub keeps : kept ≡ f .lent .kept
 
 -- by the refusal or none; t is the state that expects the page, x the page's packets
 abbrev pub fedBy : Option Refusal → Readings → Reader → Lent → State → Page → Seen → Fed

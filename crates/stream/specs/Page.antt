@@ -16,6 +16,10 @@ pub record Page : Type 0 where
   pub lacing : Bytes
   pub body : Bytes
 
+-- the page that these parts make
+abbrev pub pageWith : PageHeader → Bytes → Bytes → Page
+pageWith h lacing body = record { header = h; lacing = lacing; body = body }
+
 unfoldable pub pageOf : Bytes → Page
 pageOf b = record { header = headerOf b; lacing = lacingOf b; body = bodyOf b }
 

@@ -37,6 +37,13 @@ isComment Audio = false
 isComment Opened = false
 isComment Ended = false
 
+abbrev pub isAudio : Phase → Bool
+isAudio First = false
+isAudio Comment = false
+isAudio Audio = true
+isAudio Opened = false
+isAudio Ended = false
+
 abbrev pub isEnded : Phase → Bool
 isEnded First = false
 isEnded Comment = false

@@ -3,23 +3,17 @@ use mathlib.Core.Path.{_≡_, sym, _∙_}
 use borrow.Author.Needs.{needs}
 use denote.Ref.{now}
 use Rattle.stream.specs.Readings.{readings}
-use Rattle.audio_page.specs.declared.Scan.the-variants.{Rest}
-use Rattle.audio_page.specs.Code.{firstFrom, scanBy}
-use Rattle.audio_page.proofs.Splitting.{values-within}
 use Rattle.audio_page.proofs.Checking.{too-long, wrong-granule, past-eleven, sounding, silence, silent-fits}
 use Rattle.audio_page.proofs.feed_page.Statement.{statement}
+use Rattle.page_checks.specs.Scan.{scanBy}
+use Rattle.page_checks.specs.declared.lacing.Scan.the-variants.{Rest}
 use Rattle.audio_page.proofs.feed_page.Tie as tie
 
-scan-page-requires : tie.Need-scan-page-requires
-scan-page-requires c κs = rw (c .first-piece .ensures) (values-within (now (c .before .before .before .before .before .before .before .args .lacing)))
-
 -- the scan as the rules name it
-scan : (c : tie.After-rest)
-    → Rest (c .rest .given .0 .0)
+scan : (c : tie.After-rest) → Rest (c .rest .given .0 .0)
     ≡ scanBy (c .before .before .before .before .before .before .before .before .before .before .args .core .pending)
-    (firstFrom 0 (now (c .before .before .before .before .before .before .before .before .before .before .args .lacing)) .values)
     (now (c .before .before .before .before .before .before .before .before .before .before .args .lacing))
-scan c = sym (c .rest .given .1) ∙ (rw (c .before .before .before .first-piece .ensures) at (c .before .before .scan-page .ensures))
+scan c = sym (c .rest .given .1) ∙ c .before .before .scan-page .ensures
 
 returns : tie.Need-returns
 returns c crc =
@@ -66,7 +60,7 @@ returns-3 c crc =
     let a = st .args in
     let fp = c .before .before .before .first-piece .ensures in
     too-long (readings crc) (a .core) (a .tally) (a .h) (now (a .lacing)) (now (a .body)) (now (a .carry)) (now (a .ends)) (now (a .sizes)) (now (a .kept))
-    (st .pre .audio) (sym (c .enum-told .given .1) ∙ (rw fp at (c .before .before .scan-page .ensures)))
+    (st .pre .audio) (sym (c .enum-told .given .1) ∙ c .before .before .scan-page .ensures)
 
 returns-4 : tie.Need-returns-4
 returns-4 c crc =
@@ -86,6 +80,6 @@ pub feed-page-spec : {M : Type 1} → statement M
 feed-page-spec =
     tie.close
     (tie.spec
-    (λ c κs. search needs) scan-page-requires (λ c. search needs) (λ c. search needs) (λ c κs. search needs) returns feed-sound-requires
+    (λ c κs. search needs) (λ c κs. search needs) (λ c. search needs) (λ c. search needs) (λ c κs. search needs) returns feed-sound-requires
     (λ c. search needs) (λ c. search needs) (λ c. search needs) (λ c. search needs) returns-2 feed-silent-requires returns-3
     (λ c. search needs) returns-4)

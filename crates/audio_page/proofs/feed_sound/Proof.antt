@@ -6,7 +6,7 @@ use borrow.Author.Needs.{needs}
 use denote.Ref.{now}
 use Rattle.granule.specs.declared.Position.the-variants.{At}
 use Rattle.stream.specs.declared.Pending.{Pending}
-use Rattle.audio_page.specs.declared.Timed.the-variants.{Packets, Refused}
+use Rattle.audio_page.specs.declared.times.Timed.the-variants.{Packets, Refused}
 use Rattle.audio_page.specs.Code.{nextCore}
 use Rattle.audio_page.proofs.Pages.{sound-refused, sound-accepted, place-trimmed}
 use Rattle.audio_page.proofs.feed_sound.Statement.{statement}

@@ -3,8 +3,8 @@ use mathlib.Core.Path.{sym, ap, _∙_}
 use borrow.Author.Needs.{needs}
 use denote.Ref.{now}
 use Rattle.refusal.specs.Told.{retold, numberIn}
+use Rattle.stream.specs.Feed.{lentOf}
 use Rattle.reader.specs.declared.StateFed.{StateFed}
-use Rattle.reader.specs.Answers.{lentOf}
 use Rattle.reader.specs.Numbers.{toldState}
 use Rattle.embulgri.specs.Answers.{stored}
 use Rattle.embulgri.specs.Feeding.{pageRecord}

@@ -7,8 +7,8 @@ use native.Mathlib.Omega.{arith}
 use borrow.Author.Needs.{needs}
 use denote.Ref.{now}
 use lib.ListN.{length}
-use Rattle.stream.specs.Feed.{Lent}
-use Rattle.reader.specs.Answers.{lentOf}
+use Rattle.stream.specs.Feed.{Lent, lentOf}
+use Rattle.reader.specs.Answers.{toldFed}
 use Rattle.page_run.specs.Run.{endAt, isFull}
 use Rattle.page_run.specs.Answers.{foundEnd}
 use Rattle.page_run.proofs.Ends.{end-inside}
@@ -66,7 +66,7 @@ add-t52 c =
     let s = begun known in
     let call = c .before .before .before .before .before .before .before .before .before .before .before .before in
     let few = few-packets _ (now (s .args .buffer)) (s .args .p) (lent s) (places known) (end known) (ends-at known) (call .feed-with .ensures)
-    (record { below = λ i. known .before .before .before .before .before .before .before .before .before .before .before .before .shared-slice-known .given i .fits }) (s .pre) (c .before .before .next .given .1) in
+    (record { below = λ i. known .before .before .before .before .before .before .before .before .before .before .before .before .shared-slice-known .given i .fits }) (s .pre) (ap toldFed (c .before .before .next .given .1)) in
     let room = s .pre .ends in
     search needs
 
@@ -86,14 +86,14 @@ returns-3 c =
     let known = call .before .before .before .before .before .before in
     let s = begun known in
     rw (c .added-to .ensures)
-    (turn-accepted _ (now (s .args .buffer)) (s .args .p) (lent s) (places known) (end known) (ends-at known) (call .feed-with .ensures) (c .before .before .before .next .given .1))
+    (turn-accepted _ (now (s .args .buffer)) (s .args .p) (lent s) (places known) (end known) (ends-at known) (call .feed-with .ensures) (ap toldFed (c .before .before .before .next .given .1)))
 
 returns-4 : tie.Need-returns-4
 returns-4 c =
     let call = c .before .before .before .before .before .before .before .before .before .before .before in
     let known = call .before .before .before .before .before .before in
     let s = begun known in
-    turn-refused _ (now (s .args .buffer)) (s .args .p) (lent s) (places known) (end known) (ends-at known) (call .feed-with .ensures) (c .before .why .given .1)
+    turn-refused _ (now (s .args .buffer)) (s .args .p) (lent s) (places known) (end known) (ends-at known) (call .feed-with .ensures) (ap toldFed (c .before .why .given .1))
 
 pub feed-next-spec : {M : Type 1} → statement M
 feed-next-spec =

@@ -8,7 +8,8 @@ use Rattle.ogg_crc.specs.Crc.{pageCrc}
 use Rattle.crc_tables.specs.Table.{entryIn}
 use Rattle.ogg_crc.specs.Sliced.{pageSliced}
 use Rattle.ogg_crc.proofs.Page.{page-sliced-right}
-use Rattle.reader.specs.Answers.{knownAs, lentOf}
+use Rattle.stream.specs.Feed.{lentOf}
+use Rattle.reader.specs.Answers.{knownAs}
 use Rattle.page_run.proofs.Checksums.{same-pages}
 use Rattle.page_run.proofs.feed_pages.Statement.{statement}
 use Rattle.page_run.proofs.feed_pages.Tie as tie

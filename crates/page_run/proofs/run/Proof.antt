@@ -9,8 +9,8 @@ use Rattle.octets.specs.Octets.{Bytes}
 use Rattle.crc_tables.specs.Table.{entryIn}
 use Rattle.ogg_crc.specs.Sliced.{pageSliced}
 use Rattle.stream.specs.Readings.{Readings, readings}
-use Rattle.stream.specs.Feed.{Lent}
-use Rattle.reader.specs.Answers.{knownAs, lentOf}
+use Rattle.stream.specs.Feed.{Lent, lentOf}
+use Rattle.reader.specs.Answers.{knownAs}
 use Rattle.page_run.specs.declared.Progress.{Progress}
 use Rattle.page_run.specs.declared.Stop.{Stop}
 use Rattle.page_run.specs.declared.Turn.{Turn}

@@ -11,13 +11,13 @@ returns : tie.Need-returns
 returns c =
     let arm = c .before .before in
     let call = arm .before .before .before .before .before .before .before .before .before .before in
-    rw (← call .before .before .before .before .before .reader-from .ensures) (state-accepted (rw (arm .next .given .1) at (call .feed .ensures)) (c .numbers-of .ensures))
+    rw (← call .before .before .before .before .before .reader-from .ensures) (state-accepted (arm .next .given .0 .0) (arm .next .given .0 .1 .0) (rw (arm .next .given .1) at (call .feed .ensures)) (c .numbers-of .ensures))
 
 returns-2 : tie.Need-returns-2
 returns-2 c =
     let arm = c .before in
     let call = arm .before .before .before .before .before .before .before .before .before .before in
-    rw (← call .before .before .before .before .before .reader-from .ensures) (state-refused (rw (arm .why .given .1) at (call .feed .ensures)))
+    rw (← call .before .before .before .before .before .reader-from .ensures) (state-refused (arm .why .given .0 .0) (rw (arm .why .given .1) at (call .feed .ensures)))
 
 pub feed-state-spec : {M : Type 1} → statement M
 feed-state-spec =

@@ -1,0 +1,10 @@
+-- `header_page::after_header` meets its contract. Assumes nothing.
+use borrow.Author.Needs.{needs}
+use Rattle.header_page.proofs.after_header.Statement.{statement}
+use Rattle.header_page.proofs.after_header.Tie as tie
+
+returns : tie.Need-returns
+returns c = rw (c .wrapping-add-u32 .ensures)
+
+pub after-header-spec : {M : Type 1} → statement M
+after-header-spec = tie.close (tie.spec (λ c κs. search needs) returns)
