@@ -2,4 +2,4 @@ mod Ends
 mod Turns
 mod Feeding
 mod Checksums
-pub mod Enough
+pub mod Runs

@@ -74,6 +74,31 @@ module _ (R : Readings) (b : Bytes) (o : Octets b) (a : Reached) (m : Lent) (fit
       by false none h k = stops-goes k
       by false (some e) h k = fed-goes e h (fed e .told) refl k
 
+  -- the places filled stay where a turn stops
+  stays : (n : ℕ) (l end : List ℕ) → n ≤ length l → n ≤ length (take n l ++ end)
+  stays n l end h = omega (arith, length-append (take n l) end, length-take n l)
+
+  pub turn-stops : {why : Why} {n : Lent} → turn R b a m ≡ stops why n → Fits a b n
+  unfolding turn
+  turn-stops {why} {n} q = by (isFull (a .packets) m) (endAt b (a .bytes)) q
+    where
+      fed-stops : (e : ℕ) (t : Told Taken) → after a e t (whole (a .packets) m (fed e .lent)) ≡ stops why n → Fits a b n
+      fed-stops e (gives t) k = stops-goes (sym k)
+      fed-stops e (refuses t) k =
+          let l : whole (a .packets) m (fed e .lent) ≡ n = cc in
+          rw (← l) (record {
+            inside = fits .inside;
+            few = fits .few;
+            ends = stays (a .packets) (m .ends) (fed e .lent .ends) (fits .ends);
+            sizes = stays (a .packets) (m .sizes) (fed e .lent .sizes) (fits .sizes);
+            kept = stays (a .packets) (m .kept) (fed e .lent .kept) (fits .kept);
+          })
+
+      by : (x : Bool) (y : Option ℕ) → pick x (stops full m) (turnTo R b a m y) ≡ stops why n → Fits a b n
+      by true y k = let l : m ≡ n = cc in rw (← l) fits
+      by false none k = let l : m ≡ n = cc in rw (← l) fits
+      by false (some e) k = fed-stops e (fed e .told) k
+
 -- one turn off the front of a run
 module _ (R : Readings) (b : Bytes) (a : Reached) (m : Lent) (k : ℕ) where
   pub run-goes : {next : Reached} {n : Lent} → goes next n ≡ turn R b a m → runs (suc k) R b a m ≡ runs k R b next n
