@@ -1,12 +1,15 @@
 // A reader of one Opus stream: starting, opening part way, and feeding one page at a time.
+ghost use Prim.Native.Nat.{ℕ};
 ghost use mathlib.Core.Path.{_≡_};
+ghost use mathlib.Core.List.{List};
 ghost use lib.ListN.{length};
+ghost use Rattle.octets.specs.Octets.{Bytes};
 ghost use Rattle.stream.specs.State.{isEnded};
 ghost use Rattle.ogg_crc.specs.Crc.{pageCrc};
 ghost use Rattle.crc_tables.specs.Table.{entryIn};
 ghost use Rattle.ogg_crc.specs.Sliced.{pageSliced};
 ghost use Rattle.stream.specs.Readings.{readings};
-ghost use Rattle.stream.specs.Feed.{start as started, openPartWay, feed as feedBy, FedIs, lentOf};
+ghost use Rattle.stream.specs.Feed.{start as started, openPartWay, feed as feedBy, Fed as Outcome, FedIs, lentOf};
 ghost use Rattle.stream.specs.Feedings.{heldOf};
 ghost use Rattle.reader.specs.Answers.{knownAs, toldOpened, toldFed};
 ghost use Rattle.reader.specs.Numbers.{StandFor, readerFrom, StateOpenedIs, StateFedIs};
@@ -192,6 +195,19 @@ pub fn open_state(head: Head, state: &mut [u64; 16]) -> StateOpened
     }
 }
 
+// The numbers of the next reader; a refusal changes none.
+fn keep(fed: Fed, state: &mut [u64; 16]) -> StateFed
+    ensures { λ r. ⌜ ((f : Outcome) (carry : Bytes) (ends sizes kept : List ℕ) → FedIs f (toldFed fed) carry ends sizes kept → StateFedIs f r (now (state .entry)) (now (state .exit)) carry ends sizes kept) ⌝ }
+{
+    match fed {
+        Fed::Accepted(next, counts) => {
+            *state = numbers::numbers_of(next);
+            StateFed::Accepted(counts)
+        }
+        Fed::Refused(why) => StateFed::Refused(why),
+    }
+}
+
 // The same as `feed` with a reader in sixteen numbers. An accepted page leaves those of the next reader; a refusal changes none.
 pub fn feed_state(
     state: &mut [u64; 16],
@@ -204,11 +220,5 @@ pub fn feed_state(
     ensures { λ r. ⌜ StateFedIs (feedBy (readings pageCrc) (readerFrom (now (state .entry))) (lentOf (now (carry .entry)) (now (ends .entry)) (now (sizes .entry)) (now (kept .entry))) (now (page .entry))) r (now (state .entry)) (now (state .exit)) (now (carry .exit)) (now (ends .exit)) (now (sizes .exit)) (now (kept .exit)) ⌝ }
 {
     let reader = numbers::reader_from(state);
-    match feed(reader, page, carry, ends, sizes, kept) {
-        Fed::Accepted(next, counts) => {
-            *state = numbers::numbers_of(next);
-            StateFed::Accepted(counts)
-        }
-        Fed::Refused(why) => StateFed::Refused(why),
-    }
+    keep(feed(reader, page, carry, ends, sizes, kept), state)
 }
