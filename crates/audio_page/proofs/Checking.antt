@@ -37,9 +37,9 @@ use Rattle.audio_page.specs.Code.{firstFrom, granuleWrong, heldEnd, fres
 use Rattle.audio_page.proofs.Splitting.{Ended, ways, ends-first}
 use Rattle.audio_page.proofs.Seeing.{tail-le, tail-here}
 use Rattle.audio_page.proofs.Feeding.{inAudio, in-audio}
-use Rattle.page_checks.specs.Scan.{tailBy, scanBy}
-use Rattle.page_checks.specs.declared.lacing.Scan.the-variants.{TooLong, Rest}
-use Rattle.page_checks.proofs.Scanning.{scan-long, scan-short}
+use Rattle.lacing_checks.specs.Scan.{tailBy, scanBy}
+use Rattle.lacing_checks.specs.declared.Scan.the-variants.{TooLong, Rest}
+use Rattle.lacing_checks.proofs.Scanning.{scan-long, scan-short}
 
 -- ---- 1
 

@@ -12,7 +12,7 @@ use Rattle.granule.specs.Samples.{keptOf}
 use Rattle.stream.specs.Feed.{Entry, entries, listed}
 use Rattle.audio_page.specs.Code.{Lists}
 use Rattle.audio_page.proofs.Turns.{total-next}
-use Rattle.page_checks.proofs.Values.{next}
+use Rattle.lacing_checks.proofs.Values.{next}
 
 pub length-entries : (skip : ℕ) (end : Bool) (g at : ℕ) (ds : List ℕ) → length (entries skip end g at ds) ≡ length ds
 unfolding entries

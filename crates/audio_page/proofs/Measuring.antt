@@ -22,7 +22,7 @@ use Rattle.audio_page.specs.declared.packets.Lengths.{Lengths}
 use Rattle.audio_page.specs.declared.packets.Lengths.the-variants.{All, Refused}
 use Rattle.audio_page.specs.Code.{inFront, andLater, measured, Measures}
 use Rattle.audio_page.proofs.Turns.{total-next}
-use Rattle.page_checks.proofs.Values.{next}
+use Rattle.lacing_checks.proofs.Values.{next}
 
 -- ---- laws of the definitions
 

@@ -29,7 +29,7 @@ use Rattle.audio_page.proofs.Splitting.{Ended, Open, ways}
 use Rattle.audio_page.proofs.Seeing.{completing, going, ended, first-ended, rest-ended, begun-rest, first-open, rest-open, Carries, carries}
 use Rattle.audio_page.proofs.Verdicts.{judges, lengths-are}
 use Rattle.audio_page.proofs.Feeding.{inAudio, in-audio, refused, accepted, silent}
-use Rattle.page_checks.specs.Scan.{tailBy}
+use Rattle.lacing_checks.specs.Scan.{tailBy}
 
 -- what the place says of the trimmed samples
 pub place-trimmed : (k : Core) (h : PageHeader) {n d : ℕ} {w : Placed} {lens : List ℕ} {x : Told (List ℕ)} → Times (Packets n d w) lens k h x

@@ -25,7 +25,7 @@ use Rattle.stream.specs.Feed.{carriedIn, pendingOf, firstPiece, newRest, append
 use Rattle.stream.proofs.Pieces.{onwards}
 use Rattle.audio_page.specs.Code.{firstFrom, packetsBy, heldEnd, restOf, begunBy, stillBy, freshBy}
 use Rattle.audio_page.proofs.Splitting.{Ended, Open}
-use Rattle.page_checks.specs.Scan.{tailBy}
+use Rattle.lacing_checks.specs.Scan.{tailBy}
 
 -- ---- the rest is the end of the body
 

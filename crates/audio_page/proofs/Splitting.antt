@@ -17,7 +17,7 @@ use Rattle.stream.specs.Packets.{tooLong, longFrom, afterFirst}
 use Rattle.stream.proofs.Pieces.{onwards}
 use Rattle.audio_page.specs.declared.packets.Piece.{Piece}
 use Rattle.audio_page.specs.Code.{firstFrom, further}
-use Rattle.page_checks.proofs.Scanning.{long-ends, long-goes-on}
+use Rattle.lacing_checks.proofs.Scanning.{long-ends, long-goes-on}
 
 -- the first piece f ends a packet: what is left is cut alike
 pub record Ended (n : ℕ) (l : Bytes) (f : Piece) : Type 0 where

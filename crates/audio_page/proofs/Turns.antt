@@ -9,7 +9,7 @@ use lib.ListN.{length, getD, drop}
 use Rattle.octets.specs.Octets.{total}
 use Rattle.audio_page.specs.declared.packets.Piece.{Piece}
 use Rattle.audio_page.specs.Code.{firstFrom}
-use Rattle.page_checks.proofs.Values.{next}
+use Rattle.lacing_checks.proofs.Values.{next}
 
 pub total-next : (l : List ℕ) (i v : ℕ) → i < length l → v ≡ getD l i 0 → total (drop i l) ≡ v + total (drop (i + 1) l)
 unfolding total

@@ -34,7 +34,7 @@ use Rattle.audio_page.specs.declared.packets.Lengths.{Lengths}
 use Rattle.audio_page.specs.declared.packets.Lengths.the-variants.{All, Refused}
 use Rattle.audio_page.specs.declared.times.Timed.{Timed}
 use Rattle.audio_page.specs.declared.times.Timed.the-variants.{Packets, Refused as Untimed}
-use Rattle.page_checks.specs.Scan.{tailBy}
+use Rattle.lacing_checks.specs.Scan.{tailBy}
 
 -- ---- the lacing values
 

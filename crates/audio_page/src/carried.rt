@@ -8,7 +8,6 @@ ghost use Rattle.audio_page.specs.Code.{restOf, begunBy, stillBy, freshB
 use super::times;
 use granule::Position;
 use ogg_page::PageHeader;
-use page_checks::lent;
 use stream::Core;
 use stream::Pending;
 use stream::Phase;
@@ -18,7 +17,7 @@ pub(crate) fn append(pending: Pending, bytes: usize, body: &[u8], carry: &mut [u
     requires { ⌜ bytes ≤ length (now body) ⌝ }
     ensures { λ _. ⌜ now (carry .exit) ≡ appended InAudio (carriedIn pending (now (carry .entry))) (take bytes (now (body .entry))) (now (carry .entry)) ⌝ }
 {
-    lent::append(Phase::Audio, pending, &body[..bytes], carry);
+    lent_memory::append(Phase::Audio, pending, &body[..bytes], carry);
 }
 
 // Writes the last `rest` bytes of the body, a new packet left unfinished, from place 0.

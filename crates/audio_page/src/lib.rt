@@ -14,10 +14,9 @@ ghost use Rattle.audio_page.specs.Audio.{feedAudio, audioOn, toldAudio};
 ghost use Rattle.audio_page.specs.Code.{granuleWrong, freshBy, lateFed, Fitting, Sounding, Silent};
 ghost use Rattle.ogg_page.specs.Lacing.{isBody};
 use granule::Position;
+use lacing_checks::Scan;
 use ogg_page::PageHeader;
 use packets::Piece;
-use page_checks::lacing::Scan;
-use page_checks::lent;
 use refusal::Refusal;
 use stream::Core;
 use stream::Counts;
@@ -140,7 +139,7 @@ fn feed_page(
 {
     let pending = core.pending;
     let first = packets::first_piece(lacing);
-    match page_checks::lacing::scan_page(pending, lacing) {
+    match lacing_checks::scan_page(pending, lacing) {
         Scan::TooLong => AudioFed::Refused(Refusal::PacketTooLong),
         Scan::Rest(rest) => {
             if wrong_granule(first.ends, h.granule) {
@@ -195,7 +194,7 @@ pub fn feed_audio(
     ensures { λ r. ⌜ ((crc : Bytes → ℕ) → FedIs (feedAudio (readings crc) (readerOf core tally) (lentOf (now (carry .entry)) (now (ends .entry)) (now (sizes .entry)) (now (kept .entry))) (pageWith h (now (lacing .entry)) (now (body .entry)))) (toldAudio r) (now (carry .exit)) (now (ends .exit)) (now (sizes .exit)) (now (kept .exit))) ⌝ }
 {
     let phase = core.phase;
-    let short = lent::is_short(carry.len(), ends.len(), sizes.len(), kept.len());
+    let short = lent_memory::is_short(carry.len(), ends.len(), sizes.len(), kept.len());
     if !is_fed(phase, short, lacing, body) {
         return AudioFed::Refused(Refusal::ShortRoom);
     }

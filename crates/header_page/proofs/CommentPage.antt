@@ -34,8 +34,8 @@ use Rattle.stream.specs.Feed.{carriedIn, pendingOf, coreOf, view, Lent, skipOn,
 use Rattle.stream.specs.Feedings.{heldOf}
 use Rattle.stream.proofs.Pieces.{nonEmpty, Fits, piece-fits}
 use Rattle.stream.proofs.Carry.{fresh, joined-there}
-use Rattle.page_checks.specs.declared.lacing.Shape.the-variants.{Ends, GoesOn}
-use Rattle.page_checks.specs.Shape.{shapeOf}
+use Rattle.lacing_checks.specs.declared.Shape.the-variants.{Ends, GoesOn}
+use Rattle.lacing_checks.specs.Shape.{shapeOf}
 use Rattle.header_page.specs.declared.HeaderFed.the-variants.{Accepted, Refused}
 use Rattle.header_page.proofs.HeaderPages.{says-last, says-earlier, done-by-pieces}
 use Rattle.header_page.proofs.Late.{lateIn, refused-early, refused-late, past-lacing, accepted}

@@ -29,8 +29,8 @@ use Rattle.stream.specs.State.{nothing, State, isFirst, inHeaders}
 use Rattle.stream.specs.Packets.{join, seen}
 use Rattle.stream.specs.Rules.{lacingChecks, nextOn}
 use Rattle.stream.specs.Feed.{coreOf, view, Lent, skipOn, carryAfter, readerOf, FedIs}
-use Rattle.page_checks.specs.declared.lacing.Shape.the-variants.{Ends}
-use Rattle.page_checks.specs.Shape.{shapeOf}
+use Rattle.lacing_checks.specs.declared.Shape.the-variants.{Ends}
+use Rattle.lacing_checks.specs.Shape.{shapeOf}
 use Rattle.header_page.specs.declared.HeaderFed.the-variants.{Accepted, Refused}
 use Rattle.header_page.proofs.HeaderPages.{says-last}
 use Rattle.header_page.proofs.Late.{lateIn, refused-early, refused-late, past-lacing, accepted}

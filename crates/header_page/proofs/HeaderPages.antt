@@ -18,9 +18,9 @@ use Rattle.stream.specs.State.{State, isFirst, isComment, inHeaders}
 use Rattle.stream.specs.Packets.{seen, isLong}
 use Rattle.stream.specs.Rules.{wrongShape, allOnes, wrongGranule, lacingChecks}
 use Rattle.stream.proofs.Pieces.{nonEmpty, whole-ends, seen-completes}
-use Rattle.page_checks.specs.declared.lacing.Shape.the-variants.{Ends, GoesOn, Other}
-use Rattle.page_checks.specs.Shape.{shapeOf}
-use Rattle.page_checks.proofs.Pieces.{Says, shape-says}
+use Rattle.lacing_checks.specs.declared.Shape.the-variants.{Ends, GoesOn, Other}
+use Rattle.lacing_checks.specs.Shape.{shapeOf}
+use Rattle.lacing_checks.proofs.Pieces.{Says, shape-says}
 
 -- ---- the tests, by the phase
 

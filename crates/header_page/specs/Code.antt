@@ -15,8 +15,8 @@ use Rattle.stream.specs.Page.{Page}
 use Rattle.stream.specs.State.{State, isFirst}
 use Rattle.stream.specs.Packets.{seen, packetMax}
 use Rattle.stream.specs.Rules.{lacingChecks}
-use Rattle.page_checks.specs.declared.lacing.Shape.the-variants.{Ends, GoesOn}
-use Rattle.page_checks.specs.Shape.{shapeOf}
+use Rattle.lacing_checks.specs.declared.Shape.the-variants.{Ends, GoesOn}
+use Rattle.lacing_checks.specs.Shape.{shapeOf}
 use Rattle.header_page.specs.declared.HeaderPiece.{HeaderPiece}
 use Rattle.header_page.specs.declared.HeaderPiece.the-variants.{Last, Earlier, Refused}
 use Rattle.header_page.specs.Header.{isHeader}

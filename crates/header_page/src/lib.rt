@@ -18,11 +18,10 @@ ghost use Rattle.stream.specs.Packets.{packetMax};
 ghost use Rattle.stream.specs.Feed.{readerOf, view, Lent, lentOf, FedIs};
 ghost use Rattle.header_page.specs.Header.{isHeader, toldHeader, headerOn, feedHeader};
 ghost use Rattle.header_page.specs.Code.{headerCore, longer as longerBy, Within, PieceIs};
+use lacing_checks::Shape;
 use ogg_page::PageHeader;
 use opus_head::Verdict;
 use opus_tags::TagsRead;
-use page_checks::lacing::Shape;
-use page_checks::lent;
 use refusal::Refusal;
 use stream::Core;
 use stream::Pending;
@@ -49,10 +48,10 @@ fn header_piece(core: Core, h: PageHeader, lacing: &[u8]) -> HeaderPiece
 {
     let phase = core.phase;
     let pending = core.pending;
-    if page_checks::lacing::is_long(pending, lacing) {
+    if lacing_checks::is_long(pending, lacing) {
         return HeaderPiece::Refused(Refusal::PacketTooLong);
     }
-    match page_checks::lacing::shape_of(lacing) {
+    match lacing_checks::shape_of(lacing) {
         Shape::Ends => {
             if h.granule != 0 {
                 return HeaderPiece::Refused(Refusal::WrongGranule);
@@ -158,8 +157,8 @@ fn feed_comment(
     match header_piece(core, h, lacing) {
         HeaderPiece::Last => {
             let left = longer(pending, body.len());
-            lent::append(Phase::Comment, pending, body, carry);
-            match opus_tags::read_tags(octets::part_of(carry, 0, lent::held_in(left))) {
+            lent_memory::append(Phase::Comment, pending, body, carry);
+            match opus_tags::read_tags(octets::part_of(carry, 0, lent_memory::held_in(left))) {
                 TagsRead::Count(_) => {
                     let core = after_header(
                         core,
@@ -176,7 +175,7 @@ fn feed_comment(
         }
         HeaderPiece::Earlier => {
             let left = longer(pending, body.len());
-            lent::append(Phase::Comment, pending, body, carry);
+            lent_memory::append(Phase::Comment, pending, body, carry);
             let core = after_header(core, h, Phase::Comment, left, streams, preskip);
             HeaderFed::Accepted(core, tally)
         }

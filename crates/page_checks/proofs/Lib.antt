@@ -1,5 +1,1 @@
 pub mod Fields
-pub mod Scanning
-pub mod OnePiece
-pub mod Pieces
-pub mod Values

@@ -1,3 +1,1 @@
 pub mod Checked
-pub mod Scan
-pub mod Shape

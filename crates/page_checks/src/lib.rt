@@ -1,5 +1,4 @@
-// What the stages of feeding share: the checks of a page's fields and lacing values against what a reader expects (document
-// 01, refusals 5 to 9, and the shape that 10 asks of a header page), and the lent memory.
+// The checks of a page's fields against what a reader expects (document 01, refusals 5 to 8).
 ghost use mathlib.Core.Path.{_≡_};
 ghost use mathlib.Core.Bool.{not, _&&_, _||_, Bool·beq};
 ghost use mathlib.Core.List.{[], _∷_};
@@ -15,9 +14,6 @@ use refusal::Refusal;
 use stream::Core;
 use stream::Pending;
 use stream::Phase;
-
-pub mod lacing;
-pub mod lent;
 
 pub enum Checked {
     Passed,

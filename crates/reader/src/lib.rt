@@ -11,12 +11,12 @@ ghost use Rattle.ogg_crc.specs.Sliced.{pageSliced};
 ghost use Rattle.stream.specs.Readings.{readings};
 ghost use Rattle.stream.specs.Feed.{start as started, openPartWay, feed as feedBy, Fed as Outcome, FedIs, lentOf};
 ghost use Rattle.stream.specs.Feedings.{heldOf};
+ghost use Rattle.core_feed.specs.Answers.{toldCore};
 ghost use Rattle.reader.specs.Answers.{knownAs, toldOpened, toldFed};
 ghost use Rattle.reader.specs.Numbers.{StandFor, readerFrom, StateOpenedIs, StateFedIs};
+use core_feed::CoreFed;
 use granule::Position;
 use opus_head::Head;
-use page_checks::Checked;
-use page_checks::lent;
 use refusal::Refusal;
 use stream::Core;
 use stream::Counts;
@@ -25,7 +25,6 @@ use stream::Phase;
 use stream::Tally;
 
 mod numbers;
-mod stages;
 
 // A reader comes only from starting, opening and feeding.
 pub struct Reader {
@@ -114,10 +113,19 @@ pub fn held(reader: Reader) -> usize
 {
     let core = reader.core;
     let pending = core.pending;
-    lent::held_in(pending)
+    lent_memory::held_in(pending)
 }
 
 // ---- feeding
+
+fn sealed(fed: CoreFed) -> Fed
+    ensures { λ r. ⌜ toldFed r ≡ toldCore fed ⌝ }
+{
+    match fed {
+        CoreFed::Accepted(core, tally, counts) => Fed::Accepted(Reader { core, tally }, counts),
+        CoreFed::Refused(why) => Fed::Refused(why),
+    }
+}
 
 // Feeds one page to a reader: the next reader and the page's own record, or the lowest refusal of 1 to 19, which leaves the
 // reader and the three lists as they were. The carry buffer has to hold, up to the held count, what the last feeding left
@@ -132,13 +140,9 @@ pub fn feed(
 ) -> Fed
     ensures { λ r. ⌜ FedIs (feedBy (readings pageCrc) (knownAs reader) (lentOf (now (carry .entry)) (now (ends .entry)) (now (sizes .entry)) (now (kept .entry))) (now (page .entry))) (toldFed r) (now (carry .exit)) (now (ends .exit)) (now (sizes .exit)) (now (kept .exit)) ⌝ }
 {
-    match stages::early(reader, carry.len(), ends.len(), sizes.len(), kept.len()) {
-        Checked::Passed => {
-            let read = ogg_page::read_page(page);
-            stages::feed_read(reader, read, page, carry, ends, sizes, kept)
-        }
-        Checked::Refused(why) => Fed::Refused(why),
-    }
+    let core = reader.core;
+    let tally = reader.tally;
+    sealed(core_feed::feed_core(core, tally, page, carry, ends, sizes, kept))
 }
 
 // The same as `feed`, by lent tables: those of `crc_tables::table::tables` give the checksum, and others what they give. Whoever
@@ -154,13 +158,9 @@ pub fn feed_with(
 ) -> Fed
     ensures { λ r. ⌜ FedIs (feedBy (readings (pageSliced (entryIn (now (tables .entry))))) (knownAs reader) (lentOf (now (carry .entry)) (now (ends .entry)) (now (sizes .entry)) (now (kept .entry))) (now (page .entry))) (toldFed r) (now (carry .exit)) (now (ends .exit)) (now (sizes .exit)) (now (kept .exit)) ⌝ }
 {
-    match stages::early(reader, carry.len(), ends.len(), sizes.len(), kept.len()) {
-        Checked::Passed => {
-            let read = ogg_page::read_page_with(tables, page);
-            stages::feed_read(reader, read, page, carry, ends, sizes, kept)
-        }
-        Checked::Refused(why) => Fed::Refused(why),
-    }
+    let core = reader.core;
+    let tally = reader.tally;
+    sealed(core_feed::feed_core_with(tables, core, tally, page, carry, ends, sizes, kept))
 }
 
 // ---- a reader as sixteen numbers

@@ -5,7 +5,6 @@ ghost use Rattle.reader.specs.Answers.{knownAs};
 ghost use Rattle.reader.specs.Numbers.{phaseNumber, pendingNumber, positionNumber, granuleIn, made, StandFor, phaseFrom, pendingFrom, positionFrom, readerFrom};
 use super::Reader;
 use granule::Position;
-use page_checks::lent;
 use stream::Core;
 use stream::Pending;
 use stream::Phase;
@@ -67,7 +66,7 @@ fn sixteen(
 {
     let state = phase_number(phase);
     let left = pending_number(pending);
-    let count = lent::held_in(pending);
+    let count = lent_memory::held_in(pending);
     let place = position_number(position);
     let granule = granule_in(position);
     [

@@ -5,8 +5,8 @@ use denote.Ref.{now}
 use Rattle.stream.specs.Readings.{readings}
 use Rattle.audio_page.proofs.Checking.{too-long, wrong-granule, past-eleven, sounding, silence, silent-fits}
 use Rattle.audio_page.proofs.feed_page.Statement.{statement}
-use Rattle.page_checks.specs.Scan.{scanBy}
-use Rattle.page_checks.specs.declared.lacing.Scan.the-variants.{Rest}
+use Rattle.lacing_checks.specs.Scan.{scanBy}
+use Rattle.lacing_checks.specs.declared.Scan.the-variants.{Rest}
 use Rattle.audio_page.proofs.feed_page.Tie as tie
 
 -- the scan as the rules name it

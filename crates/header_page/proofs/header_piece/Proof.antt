@@ -2,8 +2,8 @@
 use mathlib.Core.Path.{_≡_, sym, _∙_}
 use borrow.Author.Needs.{needs}
 use denote.Ref.{now}
-use Rattle.page_checks.specs.declared.lacing.Shape.the-variants.{Ends, GoesOn, Other}
-use Rattle.page_checks.specs.Shape.{shapeOf}
+use Rattle.lacing_checks.specs.declared.Shape.the-variants.{Ends, GoesOn, Other}
+use Rattle.lacing_checks.specs.Shape.{shapeOf}
 use Rattle.stream.specs.Feed.{view}
 use Rattle.stream.specs.Page.{pageWith}
 use Rattle.header_page.proofs.HeaderPages.{long-page, other-page, last-refused, last-passes, earlier-first, earlier-refused, earlier-passes}

@@ -1,41 +1,12 @@
--- `reader::feed` meets its contract: `Pages` has 1 and 2, and `feed_read` the others. Assumes nothing.
-use mathlib.Core.Path.{sym, ap, _∙_}
+-- `reader::feed` meets its contract. Assumes nothing.
 use borrow.Author.Needs.{needs}
-use denote.Ref.{now}
-use Rattle.ogg_crc.specs.Crc.{pageCrc}
-use Rattle.page_checks.specs.Checked.{found}
-use Rattle.stream.specs.Feed.{Lent, lentOf}
-use Rattle.reader.proofs.Pages.{none-early, some-early}
 use Rattle.reader.proofs.feed.Statement.{statement}
 use Rattle.reader.proofs.feed.Tie as tie
 
--- where the function starts, and what is lent to it
-abbrev start : tie.After-early → tie.Start
-start c = c .before .before .before .before .before .before
-
-abbrev lent : tie.Start → Lent
-lent s = lentOf (now (s .args .carry)) (now (s .args .ends)) (now (s .args .sizes)) (now (s .args .kept))
-
 returns : tie.Need-returns
 returns c =
-    let last = c .before .before .before .before .before .before .before .before in
-    let call = last .before .before .before .before .before in
-    let first = call .before .before .before in
-    let a = start first .args in
-    let passed = none-early (a .reader .core .phase) (lent (start first)) (sym (first .early .ensures) ∙ ap found (call .before .enum-told .given .1)) in
-    last .feed-read .ensures pageCrc (call .read-page .ensures) (passed .0) (passed .1)
-
-returns-2 : tie.Need-returns-2
-returns-2 c =
-    let arm = c .before in
-    let first = arm .before .before in
-    let a = start first .args in
-    some-early pageCrc (a .reader .core) (a .reader .tally) (lent (start first)) (now (a .page)) (arm .why .given .0 .0)
-    (sym (first .early .ensures) ∙ ap found (arm .why .given .1))
+    let call = c .before .before .before .before .before .before .before .before .before in
+    rw (c .sealed .ensures) (call .feed-core .ensures)
 
 pub feed-spec : {M : Type 1} → statement M
-feed-spec =
-    tie.close
-    (tie.spec
-    (λ c κs. search needs) (λ c. search needs) (λ c κs. search needs) (λ c κs. search needs) (λ c. search needs) (λ c. search needs) (λ c. search needs)
-    (λ c. search needs) (λ c. search needs) returns returns-2)
+feed-spec = tie.close (tie.spec (λ c κs. search needs) (λ c κs. search needs) (λ c. search needs) (λ c. search needs) (λ c. search needs) (λ c. search needs) returns)

@@ -7,7 +7,7 @@ use lib.ListN.{length, drop, drop-of-length-le}
 use Rattle.audio_page.specs.Code.{firstFrom}
 use Rattle.audio_page.proofs.Turns.{past, past-none, piece-open, piece-goes-on, piece-ends}
 use Rattle.audio_page.proofs.packets.first_piece.Statement.{statement}
-use Rattle.page_checks.proofs.Values.{next}
+use Rattle.lacing_checks.proofs.Values.{next}
 use Rattle.audio_page.proofs.packets.first_piece.Tie as tie
 
 abbrev Inv-loop : tie.InvT-loop

@@ -1,0 +1,4 @@
+pub mod Scanning
+pub mod OnePiece
+pub mod Pieces
+pub mod Values

@@ -1,0 +1,111 @@
+// 9, and the shape that 10 asks of a header page, by the lacing values of a page.
+ghost use mathlib.Core.Path.{_≡_};
+ghost use Prim.Native.Nat.{_≤_};
+ghost use lib.ListN.{length, drop};
+ghost use Rattle.octets.specs.Octets.{Bytes};
+ghost use Rattle.stream.specs.Packets.{afterFirst, isLong};
+ghost use Rattle.stream.specs.Feed.{carriedIn};
+ghost use Rattle.lacing_checks.specs.Scan.{scanOf, scanBy};
+ghost use Rattle.lacing_checks.specs.Shape.{shapeOf};
+use stream::Pending;
+
+// 9, or how many bytes the page's last, unfinished packet has, the held ones included.
+pub enum Scan {
+    TooLong,
+    Rest(usize),
+}
+
+// What a page is of one packet: its last piece and nothing else, a piece that goes on and nothing else, or something else.
+pub enum Shape {
+    Ends,
+    GoesOn,
+    Other,
+}
+
+const PACKET_MAX: usize = 61440;
+
+// The values from `from` on, `held` bytes of the first packet being held already.
+fn scan_from(lacing: &[u8], from: usize, held: usize) -> Scan
+    requires { ⌜ from ≤ length (now lacing) ⌝ }
+    ensures { λ r. ⌜ r ≡ scanOf held (drop from (now (lacing .entry))) ⌝ }
+{
+    let mut bytes = held;
+    let mut i = from;
+    while i < lacing.len() {
+        if bytes > PACKET_MAX {
+            return Scan::TooLong;
+        }
+        let v = octets::wide(lacing[i]);
+        bytes += v;
+        if v < 255 {
+            if bytes > PACKET_MAX {
+                return Scan::TooLong;
+            }
+            bytes = 0;
+        }
+        i += 1;
+    }
+    if bytes > PACKET_MAX {
+        Scan::TooLong
+    } else {
+        Scan::Rest(bytes)
+    }
+}
+
+// The place after the first value that ends a packet.
+fn after_first(lacing: &[u8]) -> usize
+    ensures { λ r. ⌜ (drop r (now (lacing .entry)) ≡ afterFirst (now (lacing .entry))) × (r ≤ length (now (lacing .entry))) ⌝ }
+{
+    let mut i = 0;
+    while i < lacing.len() {
+        if lacing[i] < 255 {
+            return i + 1;
+        }
+        i += 1;
+    }
+    i
+}
+
+// The page's packets against 9, by what is pending. A dropped packet is not measured.
+pub fn scan_page(pending: Pending, lacing: &[u8]) -> Scan
+    ensures { λ r. ⌜ r ≡ scanBy pending (now (lacing .entry)) ⌝ }
+{
+    match pending {
+        Pending::Nothing => scan_from(lacing, 0, 0),
+        Pending::Held(n) => scan_from(lacing, 0, n),
+        Pending::Dropped => {
+            let from = after_first(lacing);
+            scan_from(lacing, from, 0)
+        }
+    }
+}
+
+// 9
+pub fn is_long(pending: Pending, lacing: &[u8]) -> bool
+    ensures { λ r. ⌜ ((carry : Bytes) → r ≡ isLong (carriedIn pending carry) (now (lacing .entry))) ⌝ }
+{
+    match scan_page(pending, lacing) {
+        Scan::TooLong => true,
+        Scan::Rest(_) => false,
+    }
+}
+
+// Whether the values are those of one piece, and whether that ends a packet.
+pub fn shape_of(lacing: &[u8]) -> Shape
+    ensures { λ r. ⌜ r ≡ shapeOf (now (lacing .entry)) ⌝ }
+{
+    let mut i = 0;
+    while i < lacing.len() {
+        if lacing[i] < 255 {
+            if i + 1 < lacing.len() {
+                return Shape::Other;
+            }
+            return Shape::Ends;
+        }
+        i += 1;
+    }
+    if i == 0 {
+        return Shape::Other;
+    }
+    Shape::GoesOn
+}
