@@ -168,7 +168,7 @@ fn feed_page(
 fn is_fed(phase: Phase, short: bool, lacing: &[u8], body: &[u8]) -> bool
     ensures { λ r. ⌜ r ≡ (isAudio phase && (not short && isBody (now (lacing .entry)) (now (body .entry)))) ⌝ }
 {
-    if !page_checks::is_audio(phase) {
+    if !phases::is_audio(phase) {
         return false;
     }
     if short {

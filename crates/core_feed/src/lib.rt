@@ -41,7 +41,7 @@ fn early(phase: Phase, carry: usize, ends: usize, sizes: usize, kept: usize) -> 
     if lent_memory::is_short(carry, ends, sizes, kept) {
         return Checked::Refused(Refusal::ShortRoom);
     }
-    if page_checks::is_ended(phase) {
+    if phases::is_ended(phase) {
         return Checked::Refused(Refusal::AfterEnd);
     }
     Checked::Passed
@@ -117,7 +117,7 @@ fn feed_read(
             let lacing = ogg_page::lacing_of(page);
             let body = ogg_page::body_of(page);
             let phase = due.phase;
-            if page_checks::is_audio(phase) {
+            if phases::is_audio(phase) {
                 return of_audio(audio_page::feed_audio(
                     due,
                     tally,

@@ -59,7 +59,7 @@ fn header_piece(core: Core, h: PageHeader, lacing: &[u8]) -> HeaderPiece
             HeaderPiece::Last
         }
         Shape::GoesOn => {
-            if page_checks::is_first(phase) {
+            if phases::is_first(phase) {
                 return HeaderPiece::Refused(Refusal::HeaderShape);
             }
             if h.granule != 18446744073709551615 {
@@ -231,7 +231,7 @@ pub fn feed_header(
     if !is_fed(phase, pending, carry.len(), lacing, body) {
         return HeaderFed::Refused(Refusal::ShortRoom);
     }
-    if page_checks::is_first(phase) {
+    if phases::is_first(phase) {
         return feed_head(core, h, lacing, body);
     }
     feed_comment(core, tally, h, lacing, body, carry)

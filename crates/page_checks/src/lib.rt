@@ -5,7 +5,7 @@ ghost use mathlib.Core.List.{[], _∷_};
 ghost use Rattle.octets.specs.Octets.{Bytes};
 ghost use Rattle.refusal.specs.Checks.{_when_, firstOf, orElse};
 ghost use Rattle.stream.specs.Page.{isContinued, isFirstPage, isLastPage, pageWith};
-ghost use Rattle.stream.specs.State.{isFirst, isAudio, isEnded, inHeaders, expecting};
+ghost use Rattle.stream.specs.State.{inHeaders, expecting};
 ghost use Rattle.stream.specs.Rules.{wrongFlags, fieldChecks};
 ghost use Rattle.stream.specs.Feed.{view};
 ghost use Rattle.page_checks.specs.Checked.{found, isPending};
@@ -38,42 +38,6 @@ fn is_last_page(flags: u8) -> bool
     ensures { λ r. ⌜ r ≡ isLastPage flags ⌝ }
 {
     flags / 4 % 2 == 1
-}
-
-pub fn is_first(phase: Phase) -> bool
-    ensures { λ r. ⌜ r ≡ isFirst phase ⌝ }
-{
-    match phase {
-        Phase::First => true,
-        Phase::Comment => false,
-        Phase::Audio => false,
-        Phase::Opened => false,
-        Phase::Ended => false,
-    }
-}
-
-pub fn is_audio(phase: Phase) -> bool
-    ensures { λ r. ⌜ r ≡ isAudio phase ⌝ }
-{
-    match phase {
-        Phase::First => false,
-        Phase::Comment => false,
-        Phase::Audio => true,
-        Phase::Opened => false,
-        Phase::Ended => false,
-    }
-}
-
-pub fn is_ended(phase: Phase) -> bool
-    ensures { λ r. ⌜ r ≡ isEnded phase ⌝ }
-{
-    match phase {
-        Phase::First => false,
-        Phase::Comment => false,
-        Phase::Audio => false,
-        Phase::Opened => false,
-        Phase::Ended => true,
-    }
 }
 
 fn in_headers(phase: Phase) -> bool
@@ -136,7 +100,7 @@ fn and_then(c: Checked, why: Refusal, holds: bool) -> Checked
 fn wrong_flags(phase: Phase, flags: u8) -> bool
     ensures { λ r. ⌜ r ≡ wrongFlags phase flags ⌝ }
 {
-    let mark = differ(is_first_page(flags), is_first(phase));
+    let mark = differ(is_first_page(flags), phases::is_first(phase));
     let end = both(in_headers(phase), is_last_page(flags));
     either(flags > 7, either(mark, end))
 }

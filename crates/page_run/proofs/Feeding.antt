@@ -14,7 +14,7 @@ use Rattle.stream.specs.Readings.{Readings}
 use Rattle.stream.specs.Feed.{Reader as Known, Lent, lentOf, Taken, FedIs, feed}
 use Rattle.reader.specs.Answers.{knownAs}
 use Rattle.page_run.specs.declared.Progress.{Progress}
-use Rattle.page_run.specs.Run.{endAt, isFull, past, whole, added, refused, cut, full, goes, stops, turn, Fits}
+use Rattle.page_run.specs.Run.{endAt, isFull, past, whole, cut, full, stops, after, turn, Fits}
 use Rattle.page_run.specs.Answers.{reached}
 use Rattle.page_run.proofs.Turns.{shows}
 
@@ -59,27 +59,9 @@ module _ (R : Readings) (b : Bytes) (p : Progress) (m : Lent) where
       abbrev end : Lent
       end = lentOf carry (back (p .packets) (m .ends) ends) (back (p .packets) (m .sizes) sizes) (back (p .packets) (m .kept) kept)
 
-      pub turn-refused : {n : ℕ} → t ≡ refuses n → stops (refused n) end ≡ turn R b (reached p) m
+      pub turn-told : {x : Told Taken} → t ≡ x → after (reached p) e x end ≡ turn R b (reached p) m
       unfolding turn
-      turn-refused q =
-          rw (
-            places,
-            ends-at,
-            ← by-parts .told,
-            ← by-parts .held,
-            ← by-parts .ended,
-            ← by-parts .sized,
-            ← by-parts .keeps,
-            q,
-            back-all (p .packets) (m .ends) ends,
-            back-all (p .packets) (m .sizes) sizes,
-            back-all (p .packets) (m .kept) kept,
-          )
-
-      pub turn-accepted : {next : Known} {c : Counts} → t ≡ gives (record { reader = next; counts = c })
-          → goes (record { reader = next; bytes = e; pages = p .pages + 1; packets = p .packets + c .packets; sums = added (p .sums) c }) end ≡ turn R b (reached p) m
-      unfolding turn
-      turn-accepted q =
+      turn-told q =
           rw (
             places,
             ends-at,

@@ -96,7 +96,7 @@ pub fn is_ended(reader: Reader) -> bool
 {
     let core = reader.core;
     let phase = core.phase;
-    page_checks::is_ended(phase)
+    phases::is_ended(phase)
 }
 
 // The last granule position of an audio page, where there is one yet.

@@ -12,7 +12,7 @@ use Rattle.reader.specs.Answers.{toldFed}
 use Rattle.page_run.specs.Run.{endAt, isFull}
 use Rattle.page_run.specs.Answers.{foundEnd}
 use Rattle.page_run.proofs.Ends.{end-inside}
-use Rattle.page_run.proofs.Feeding.{turn-full, turn-cut, turn-refused, turn-accepted, few-packets}
+use Rattle.page_run.proofs.Feeding.{turn-full, turn-cut, turn-told, few-packets}
 use Rattle.page_run.proofs.feed_next.Statement.{statement}
 use Rattle.page_run.proofs.feed_next.Tie as tie
 
@@ -86,14 +86,14 @@ returns-3 c =
     let known = call .before .before .before .before .before .before in
     let s = begun known in
     rw (c .added-to .ensures)
-    (turn-accepted _ (now (s .args .buffer)) (s .args .p) (lent s) (places known) (end known) (ends-at known) (call .feed-with .ensures) (ap toldFed (c .before .before .before .next .given .1)))
+    (turn-told _ (now (s .args .buffer)) (s .args .p) (lent s) (places known) (end known) (ends-at known) (call .feed-with .ensures) (ap toldFed (c .before .before .before .next .given .1)))
 
 returns-4 : tie.Need-returns-4
 returns-4 c =
     let call = c .before .before .before .before .before .before .before .before .before .before .before in
     let known = call .before .before .before .before .before .before in
     let s = begun known in
-    turn-refused _ (now (s .args .buffer)) (s .args .p) (lent s) (places known) (end known) (ends-at known) (call .feed-with .ensures) (ap toldFed (c .before .why .given .1))
+    turn-told _ (now (s .args .buffer)) (s .args .p) (lent s) (places known) (end known) (ends-at known) (call .feed-with .ensures) (ap toldFed (c .before .why .given .1))
 
 pub feed-next-spec : {M : Type 1} → statement M
 feed-next-spec =

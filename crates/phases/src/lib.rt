@@ -1,0 +1,40 @@
+// How far a stream has come: whether no page was accepted yet, an audio page is due, or the last page was marked so.
+ghost use mathlib.Core.Path.{_≡_};
+ghost use Rattle.stream.specs.State.{isFirst, isAudio, isEnded};
+use stream::Phase;
+
+pub fn is_first(phase: Phase) -> bool
+    ensures { λ r. ⌜ r ≡ isFirst phase ⌝ }
+{
+    match phase {
+        Phase::First => true,
+        Phase::Comment => false,
+        Phase::Audio => false,
+        Phase::Opened => false,
+        Phase::Ended => false,
+    }
+}
+
+pub fn is_audio(phase: Phase) -> bool
+    ensures { λ r. ⌜ r ≡ isAudio phase ⌝ }
+{
+    match phase {
+        Phase::First => false,
+        Phase::Comment => false,
+        Phase::Audio => true,
+        Phase::Opened => false,
+        Phase::Ended => false,
+    }
+}
+
+pub fn is_ended(phase: Phase) -> bool
+    ensures { λ r. ⌜ r ≡ isEnded phase ⌝ }
+{
+    match phase {
+        Phase::First => false,
+        Phase::Comment => false,
+        Phase::Audio => false,
+        Phase::Opened => false,
+        Phase::Ended => true,
+    }
+}
