@@ -101,6 +101,16 @@ lowest-four x h =
     let d : x % 10 ≡ x % 100 % 10 = omega arith in
     rw (a, b, c, d)
 
+-- they are those of the last four digits alone
+pub lowest-same : (x : ℕ) → lowest 4 (x % 10000) ≡ lowest 4 x
+unfolding lowest
+lowest-same x =
+    let a : x % 10000 / 10 / 10 / 10 % 10 ≡ x / 10 / 10 / 10 % 10 = omega arith in
+    let b : x % 10000 / 10 / 10 % 10 ≡ x / 10 / 10 % 10 = omega arith in
+    let c : x % 10000 / 10 % 10 ≡ x / 10 % 10 = omega arith in
+    let d : x % 10000 % 10 ≡ x % 10 = omega arith in
+    rw (a, b, c, d)
+
 pub decimal-four : (x : ℕ) → 1000 ≤ x → x < 10000 → decimal x ≡ lowest 4 x
 unfolding lowest
 decimal-four x h k =

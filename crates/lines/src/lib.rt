@@ -13,7 +13,7 @@ ghost use Rattle.lines.specs.Writing.{Put, Laid};
 ghost use Rattle.lines.specs.Digits.{lowest};
 
 // How many digits a number has.
-fn digits_of(x: u64) -> usize
+pub fn digits_of(x: u64) -> usize
     ensures { λ r. ⌜ (r ≡ length (decimal x)) × (r ≤ 20) ⌝ }
 {
     let mut rest = x;
@@ -77,6 +77,16 @@ fn put_four(out: &mut [u8], at: usize, x: u64)
     ensures { λ _. ⌜ now (out .exit) ≡ copied (now (out .entry)) at (lowest 4 x) ⌝ }
 {
     put_word(out, at, four_digits(x));
+}
+
+// The last four digits of a number, leading zeros too, or nothing where they do not fit.
+pub fn put_last_four(out: &mut [u8], at: usize, x: u64)
+    ensures { λ _. ⌜ now (out .exit) ≡ copied (now (out .entry)) at (lowest 4 x) ⌝ }
+{
+    if is_short(out.len(), at, 4) {
+        return;
+    }
+    put_four(out, at, x % 10000);
 }
 
 // The eight digits of a number below 100,000,000, leading zeros too.

@@ -1,11 +1,12 @@
 -- Parts of a list of bytes: their ends cut to the list's, and their bytes. Assumes nothing.
-use mathlib.Core.Path.{_≡_, ap}
+use mathlib.Core.Path.{_≡_, refl, ap}
 use mathlib.Core.List.{[], _∷_}
-use Prim.Native.Nat.{ℕ, zero, suc, _+_, _<_, min}
+use Prim.Native.Nat.{ℕ, zero, suc, _+_, _≤_, _<_, min}
 use native.Mathlib.Nat.{zero-min, min-zero, suc-min-suc}
+use native.Mathlib.Omega.{arith}
 use lib.Dec.{lit<}
 use lib.ListN.{length, getD, take, drop}
-use lib.Seq.{getD-drop}
+use lib.Seq.{getD-drop, take-take}
 use Rattle.octets.specs.Octets.{Bytes, Octets}
 
 pub take-min : (n : ℕ) (s : Bytes) → take (min n (length s)) s ≡ take n s
@@ -17,6 +18,13 @@ pub drop-min : (n : ℕ) (s : Bytes) → drop (min n (length s)) s ≡ drop n s
 drop-min zero s = rw zero-min
 drop-min (suc n) [] = rw min-zero
 drop-min (suc n) (b ∷ s) = rw suc-min-suc (drop-min n s)
+
+-- a part that ends before the list is cut
+pub take-within : (k i n : ℕ) (s : Bytes) → i + k ≤ n → take k (drop i (take n s)) ≡ take k (drop i s)
+take-within k zero n s h = take-take k n s (omega arith)
+take-within k (suc i) zero s h = absurd (omega arith)
+take-within k (suc i) (suc n) [] h = refl
+take-within k (suc i) (suc n) (b ∷ s) h = take-within k i n s (omega arith)
 
 -- a part of a list of bytes is one
 pub octets-tail : {b : ℕ} {s : Bytes} → Octets (b ∷ s) → Octets s

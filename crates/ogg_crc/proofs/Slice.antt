@@ -33,23 +33,23 @@ first b s h w hw =
     ∙ crc-xor s (octets-tail h) low (bits 8 (x * 2 ^ 24)) (mod-lt (w * 2 ^ 8) (pow-pos 32)) (bits-lt 8 (x * 2 ^ 24) (omega arith))
     ∙ ap (bitXor (crc low s)) (bits-byte (length s) (x * 2 ^ 24))
 
--- a block's size is one of three
-sizes : (P : ℕ → Type 0) → P 16 → P 4 → P 1 → (a b : Bool) → P (pick a 16 (pick b 4 1))
-sizes P p q r true b = p
-sizes P p q r false true = q
-sizes P p q r false false = r
+-- a block's size is one of five
+sizes : (P : ℕ → Type 0) → P 16 → P 8 → P 4 → P 2 → P 1 → (a b c d : Bool) → P (pick a 16 (pick b 8 (pick c 4 (pick d 2 1))))
+sizes P p q r t u true b c d = p
+sizes P p q r t u false true c d = q
+sizes P p q r t u false false true d = r
+sizes P p q r t u false false false true = t
+sizes P p q r t u false false false false = u
 
-size-pos : (n : ℕ) → 1 ≤ size n
+pub size-within : (n : ℕ) → (1 ≤ size n) × (size n ≤ 16)
 unfolding size
-size-pos n = sizes (λ (m : ℕ). 1 ≤ m) (omega arith) (omega arith) (omega arith) (leb 16 n) (leb 4 n)
-
-size-le : (n : ℕ) → size n ≤ 16
-unfolding size
-size-le n = sizes (λ (m : ℕ). m ≤ 16) (omega arith) (omega arith) (omega arith) (leb 16 n) (leb 4 n)
+size-within n =
+    sizes (λ (m : ℕ). (1 ≤ m) × (m ≤ 16)) (omega arith, omega arith) (omega arith, omega arith) (omega arith, omega arith)
+    (omega arith, omega arith) (omega arith, omega arith) (leb 16 n) (leb 8 n) (leb 4 n) (leb 2 n)
 
 -- a block takes a byte at least
 pub shorter : (n : ℕ) (s : Bytes) → length s ≤ suc n → length (drop (size (length s)) s) ≤ n
-shorter n s h = simp length-drop (omega (arith, size-pos (length s)))
+shorter n s h = simp length-drop (omega (arith, size-within (length s)))
 
 module _ (e : ℕ → ℕ → ℕ) (right : Right e) where
   block-right : (s : Bytes) → Octets s → length s ≤ 16 → (x : ℕ) → x < 2 ^ 32 → blockOf e x s ≡ crc x s
@@ -68,7 +68,7 @@ module _ (e : ℕ → ℕ → ℕ) (right : Right e) where
   blocks-right zero (b ∷ s) h l r hr = absurd (omega arith)
   blocks-right (suc n) s h l r hr =
       let m : ℕ = size (length s) in
-      let one = block-right (take m s) (octets-take m s h) (simp length-take (omega (arith, size-le (length s)))) r hr in
+      let one = block-right (take m s) (octets-take m s h) (simp length-take (omega (arith, size-within (length s)))) r hr in
       let wide : blockOf e r (take m s) < 2 ^ 32 = rw one (crc-lt (take m s) r hr) in
       blocks-right n (drop m s) (octets-drop m s h) (shorter n s l) (blockOf e r (take m s)) wide
       ∙ ap (λ (y : ℕ). crc y (drop m s)) one ∙ sym (crc-append r (take m s) (drop m s)) ∙ ap (crc r) (take-append-drop m s)

@@ -105,15 +105,33 @@ module _ {e : ℕ → ℕ → ℕ} {r : ℕ} {s : Bytes} {x i : ℕ} where
   unfolding size
   left-16 {y} h = turn 16 y (rw (le-leb 16 (length s - i) h)) (omega arith) (omega arith)
 
-  pub left-4 : {y : ℕ} → length s - i < 16 → 4 ≤ length s - i → Left e r s x i
+  pub left-8 : {y : ℕ} → length s - i < 16 → 8 ≤ length s - i → Left e r s x i
+      → y ≡ blockOf e x (take 8 (drop i s)) → Left e r s y (i + 8)
+  unfolding size
+  left-8 {y} l h = turn 8 y (rw (lt-leb 16 (length s - i) l, le-leb 8 (length s - i) h)) (omega arith) (omega arith)
+
+  pub left-4 : {y : ℕ} → length s - i < 8 → 4 ≤ length s - i → Left e r s x i
       → y ≡ blockOf e x (take 4 (drop i s)) → Left e r s y (i + 4)
   unfolding size
-  left-4 {y} l h = turn 4 y (rw (lt-leb 16 (length s - i) l, le-leb 4 (length s - i) h)) (omega arith) (omega arith)
+  left-4 {y} l h =
+      turn 4 y (rw (lt-leb 16 (length s - i) (omega arith), lt-leb 8 (length s - i) l, le-leb 4 (length s - i) h))
+      (omega arith) (omega arith)
 
-  pub left-1 : {y : ℕ} → length s - i < 4 → i < length s → Left e r s x i
+  pub left-2 : {y : ℕ} → length s - i < 4 → 2 ≤ length s - i → Left e r s x i
+      → y ≡ blockOf e x (take 2 (drop i s)) → Left e r s y (i + 2)
+  unfolding size
+  left-2 {y} l h =
+      turn 2 y
+      (rw (lt-leb 16 (length s - i) (omega arith), lt-leb 8 (length s - i) (omega arith), lt-leb 4 (length s - i) l, le-leb 2 (length s - i) h))
+      (omega arith) (omega arith)
+
+  pub left-1 : {y : ℕ} → length s - i < 2 → i < length s → Left e r s x i
       → y ≡ blockOf e x (take 1 (drop i s)) → Left e r s y (i + 1)
   unfolding size
-  left-1 {y} l h = turn 1 y (rw (lt-leb 16 (length s - i) (omega arith), lt-leb 4 (length s - i) l)) h (omega arith)
+  left-1 {y} l h =
+      turn 1 y
+      (rw (lt-leb 16 (length s - i) (omega arith), lt-leb 8 (length s - i) (omega arith), lt-leb 4 (length s - i) (omega arith), lt-leb 2 (length s - i) l))
+      h (omega arith)
 
   pub left-ends : length s ≤ i → Left e r s x i → x ≡ sliced e r s
   unfolding sliced blocks

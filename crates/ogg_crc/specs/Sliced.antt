@@ -22,7 +22,7 @@ blockOf e x (b ∷ s) = bitXor (blockOf e (x * 2 ^ 8 % 2 ^ 32) s) (e (length s) 
 
 -- the size of the next block where n bytes are left
 unfoldable pub size : ℕ → ℕ
-size n = pick (leb 16 n) 16 (pick (leb 4 n) 4 1)
+size n = pick (leb 16 n) 16 (pick (leb 8 n) 8 (pick (leb 4 n) 4 (pick (leb 2 n) 2 1)))
 
 -- the register r after n blocks; where no byte is left a block is empty
 unfoldable pub blocks : (ℕ → ℕ → ℕ) → ℕ → ℕ → Bytes → ℕ

@@ -6,7 +6,7 @@
 ghost use mathlib.Core.Path.{_≡_};
 ghost use Prim.Native.Nat.{_+_, _/_, _≤_, _<_, _^_};
 ghost use lib.Bits.{bitXor};
-ghost use lib.ListN.{length, take, drop, getD};
+ghost use lib.ListN.{length, take, drop, getD, replicate};
 ghost use Rattle.crc_tables.specs.Table.{entryIn, halfEntryIn};
 ghost use Rattle.ogg_crc.specs.Crc.{crc, pageCrc};
 ghost use Rattle.ogg_crc.specs.Sliced.{moved, blockOf, sliced, pageSliced};
@@ -93,7 +93,7 @@ fn half_block(halves: &[u32; 512], x: u32, s: &[u8], at: usize, m: usize) -> u32
     y
 }
 
-// The register r after the bytes of s: sixteen at a time, then four, then one.
+// The register r after the bytes of s: sixteen at a time, then eight, four, two, one.
 fn update(tables: &[u32; 4096], r: u32, s: &[u8]) -> u32
     ensures { λ x. ⌜ x ≡ sliced (entryIn (now (tables .entry))) r (now (s .entry)) ⌝ }
 {
@@ -104,9 +104,15 @@ fn update(tables: &[u32; 4096], r: u32, s: &[u8]) -> u32
         if left >= 16 {
             x = block(tables, x, s, i, 16);
             i += 16;
+        } else if left >= 8 {
+            x = block(tables, x, s, i, 8);
+            i += 8;
         } else if left >= 4 {
             x = block(tables, x, s, i, 4);
             i += 4;
+        } else if left >= 2 {
+            x = block(tables, x, s, i, 2);
+            i += 2;
         } else {
             x = block(tables, x, s, i, 1);
             i += 1;
@@ -125,9 +131,15 @@ fn half_update(halves: &[u32; 512], r: u32, s: &[u8]) -> u32
         if left >= 16 {
             x = half_block(halves, x, s, i, 16);
             i += 16;
+        } else if left >= 8 {
+            x = half_block(halves, x, s, i, 8);
+            i += 8;
         } else if left >= 4 {
             x = half_block(halves, x, s, i, 4);
             i += 4;
+        } else if left >= 2 {
+            x = half_block(halves, x, s, i, 2);
+            i += 2;
         } else {
             x = half_block(halves, x, s, i, 1);
             i += 1;
@@ -168,11 +180,28 @@ pub fn checksum(s: &[u8]) -> u32
     }
 }
 
+// The register after the first 26 bytes of a page, as `update` goes through those before the field and through the field;
+// with the sizes of the blocks written out, they take a third of the time. It is what short pages wait for.
+fn head_checksum(tables: &[u32; 4096], page: &[u8]) -> u32
+    requires { ⌜ 26 ≤ length (now page) ⌝ }
+    ensures { λ x. ⌜ x ≡ sliced (entryIn (now (tables .entry))) (sliced (entryIn (now (tables .entry))) 0 (take 22 (now (page .entry)))) (replicate 4 0) ⌝ }
+{
+    let zeros = [0u8; 4];
+    let first = block(tables, 0, page, 0, 16);
+    let second = block(tables, first, page, 16, 4);
+    let third = block(tables, second, page, 20, 2);
+    block(tables, third, &zeros, 0, 4)
+}
+
 // The same of a page, its own checksum field, bytes 22 to 25, taken as zeros. Of a shorter slice, those of the four
 // bytes that it has are taken as zeros: a slice of up to 22 bytes gives the checksum of its bytes as they are.
 pub fn page_checksum_with(tables: &[u32; 4096], page: &[u8]) -> u32
     ensures { λ x. ⌜ x ≡ pageSliced (entryIn (now (tables .entry))) (now (page .entry)) ⌝ }
 {
+    if page.len() >= FIELD_END {
+        let head = head_checksum(tables, page);
+        return update(tables, head, &page[FIELD_END..]);
+    }
     let zeros = [0u8; 4];
     let a = octets::least(FIELD, page.len());
     let b = octets::least(FIELD_END, page.len());

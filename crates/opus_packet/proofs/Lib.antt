@@ -1,3 +1,4 @@
 pub mod Agreement
 pub mod Verdict
 pub mod Legal
+pub mod Single

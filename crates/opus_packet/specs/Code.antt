@@ -1,11 +1,12 @@
 -- What the private functions answer, in the code's words: a length with the place that follows it, and whether the lengths
 -- agree. Assumes nothing.
 use Prim.Native.Nat.{ℕ, _≤_}
-use lib.Dec.{eqb}
-use lib.ListN.{length, drop}
+use mathlib.Core.Bool.{Bool, _&&_}
+use lib.Dec.{ltb, eqb}
+use lib.ListN.{length, getD, drop}
 use Rattle.octets.specs.Pick.{pick}
 use Rattle.octets.specs.Octets.{Bytes}
-use Rattle.opus_frames.specs.Frames.{Read, short, value}
+use Rattle.opus_frames.specs.Frames.{codeOf, Read, short, value}
 use Rattle.opus_frames.specs.Packet.{Parsed, breaks, frames}
 use Rattle.opus_packet.specs.declared.Measure.{Measure}
 use Rattle.opus_packet.specs.declared.Measure.the-variants.{Illegal, Samples}
@@ -45,3 +46,7 @@ abbrev pub joined : ℕ → Agreed → Agreed
 joined d notLegal = notLegal
 joined d notSame = notSame
 joined d (same e) = pick (eqb e d) (same d) notSame
+
+-- a plain packet of code 0: a first byte, and one frame of at most 1,275 bytes
+unfoldable pub isSingle : Bytes → Bool
+isSingle b = ltb 0 (length b) && (ltb (length b) 1277 && eqb (codeOf (getD b 0 0)) 0)

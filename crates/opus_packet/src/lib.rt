@@ -3,7 +3,7 @@ ghost use mathlib.Core.Path.{_≡_};
 ghost use Prim.Native.Nat.{_-_, _≤_};
 ghost use Rattle.opus_frames.specs.Packet.{parse};
 ghost use Rattle.opus_packet.specs.Streams.{lengthsOf, readPacket, toldPacket};
-ghost use Rattle.opus_packet.specs.Code.{toldMeasure, EndsIn, lengthIn, agreed, toldLengths, joined};
+ghost use Rattle.opus_packet.specs.Code.{toldMeasure, EndsIn, lengthIn, agreed, toldLengths, joined, isSingle};
 use opus_frames::Found;
 use refusal::Refusal;
 
@@ -68,9 +68,8 @@ fn read_streams(s: &[u8], streams: u64) -> Lengths
     with_first(samples, later)
 }
 
-// The length in samples of an audio packet of so many streams. 13: the number of streams is not from 1 to 255. 15: one of
-// its Opus packets is illegal. 16: they differ in length.
-pub fn read_packet(bytes: &[u8], streams: u64) -> PacketRead
+// Of any packet.
+fn read_any(bytes: &[u8], streams: u64) -> PacketRead
     ensures { λ r. ⌜ toldPacket r ≡ readPacket (now (bytes .entry)) streams ⌝ }
 {
     if streams == 0 {
@@ -85,4 +84,26 @@ pub fn read_packet(bytes: &[u8], streams: u64) -> PacketRead
         Lengths::Mixed => PacketRead::Refused(Refusal::MixedLengths),
         Lengths::Same(d) => PacketRead::Samples(d),
     }
+}
+
+// Whether the bytes are a packet of one frame that has no length coded, by its first byte and its length: nearly all packets
+// of one stream are.
+fn is_single(bytes: &[u8]) -> bool
+    ensures { λ r. ⌜ r ≡ isSingle (now (bytes .entry)) ⌝ }
+{
+    let toc = octets::byte_at(bytes, 0);
+    (bytes.len() > 0) & ((bytes.len() < 1277) & (toc % 4 == 0))
+}
+
+// The length in samples of an audio packet of so many streams. 13: the number of streams is not from 1 to 255. 15: one of
+// its Opus packets is illegal. 16: they differ in length.
+pub fn read_packet(bytes: &[u8], streams: u64) -> PacketRead
+    ensures { λ r. ⌜ toldPacket r ≡ readPacket (now (bytes .entry)) streams ⌝ }
+{
+    if streams == 1 {
+        if is_single(bytes) {
+            return PacketRead::Samples(opus_frames::frame_samples(octets::byte_at(bytes, 0)));
+        }
+    }
+    read_any(bytes, streams)
 }

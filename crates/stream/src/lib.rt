@@ -21,13 +21,13 @@ pub enum Pending {
 // All that decides a refusal, a stamp or a length, beside the carry bytes up to the held count. `next` is the sequence number
 // that is due.
 pub struct Core {
-    pub phase: Phase,
     pub pending: Pending,
     pub position: Position,
     pub serial: u32,
     pub next: u32,
     pub streams: u8,
     pub preskip: u16,
+    pub phase: Phase,
 }
 
 // All that only counts: the samples still to skip.

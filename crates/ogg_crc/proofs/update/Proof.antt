@@ -3,7 +3,7 @@ use Prim.Native.Nat.{_-_}
 use native.Mathlib.Omega.{arith}
 use lib.ListN.{length}
 use Rattle.crc_tables.specs.Table.{entryIn}
-use Rattle.ogg_crc.proofs.Turns.{Left, left-starts, left-16, left-4, left-1, left-ends}
+use Rattle.ogg_crc.proofs.Turns.{Left, left-starts, left-16, left-8, left-4, left-2, left-1, left-ends}
 use Rattle.ogg_crc.proofs.update.Statement.{statement}
 use Rattle.ogg_crc.proofs.update.Tie as tie
 
@@ -20,7 +20,11 @@ update-spec =
     (λ c κs. (omega arith, omega arith)) (λ c. omega arith) (λ c. omega arith)
     (λ c. left-16 (omega arith) (c .before .before .before .loop .inv) (c .block .ensures))
     (λ c κs. (omega arith, omega arith)) (λ c. omega arith) (λ c. omega arith)
-    (λ c. left-4 (omega arith) (omega arith) (c .before .before .before .before .loop .inv) (c .block2 .ensures))
+    (λ c. left-8 (omega arith) (omega arith) (c .before .before .before .before .loop .inv) (c .block2 .ensures))
     (λ c κs. (omega arith, omega arith)) (λ c. omega arith) (λ c. omega arith)
-    (λ c. left-1 (omega arith) (omega arith) (c .before .before .before .before .loop .inv) (c .block3 .ensures))
+    (λ c. left-4 (omega arith) (omega arith) (c .before .before .before .before .before .loop .inv) (c .block3 .ensures))
+    (λ c κs. (omega arith, omega arith)) (λ c. omega arith) (λ c. omega arith)
+    (λ c. left-2 (omega arith) (omega arith) (c .before .before .before .before .before .before .loop .inv) (c .block4 .ensures))
+    (λ c κs. (omega arith, omega arith)) (λ c. omega arith) (λ c. omega arith)
+    (λ c. left-1 (omega arith) (omega arith) (c .before .before .before .before .before .before .loop .inv) (c .block5 .ensures))
     (λ c. left-ends (omega arith) (c .before .loop .inv)))
