@@ -4,7 +4,7 @@ ghost use mathlib.Core.Bool.{true};
 ghost use Rattle.ogg_crc.specs.Crc.{crc};
 ghost use Rattle.opus_tags.specs.Reading.{toldPart};
 ghost use Rattle.stream.specs.Feed.{start as started, lentOf};
-ghost use Rattle.reader.specs.Numbers.{numbersOf};
+ghost use Rattle.state_numbers.specs.Numbers.{numbersOf};
 ghost use Rattle.embulgri.specs.Answers.{PageIn, PageOut, PacketIn, HeadIn, HeadLaid, headNumbers, fitting, headFrom, TagsIn, PartIn, VendorIn, CommentIn, GainIn, TagsOut, ClockAfter};
 ghost use Rattle.embulgri.specs.Feeding.{OpenedIn, pageRecord, FedIn};
 use head_writer::HeadWritten;

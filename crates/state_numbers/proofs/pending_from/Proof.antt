@@ -1,8 +1,8 @@
--- `reader::numbers::pending_from` meets its contract. Assumes nothing.
+-- `state_numbers::pending_from` meets its contract. Assumes nothing.
 use borrow.Author.Tests.{eq-eqb, ne-eqb}
-use Rattle.reader.specs.Numbers.{pendingFrom}
-use Rattle.reader.proofs.numbers.pending_from.Statement.{statement}
-use Rattle.reader.proofs.numbers.pending_from.Tie as tie
+use Rattle.state_numbers.specs.Numbers.{pendingFrom}
+use Rattle.state_numbers.proofs.pending_from.Statement.{statement}
+use Rattle.state_numbers.proofs.pending_from.Tie as tie
 
 returns : tie.Need-returns
 unfolding pendingFrom

@@ -1,8 +1,8 @@
--- `reader::numbers::position_from` meets its contract. Assumes nothing.
+-- `state_numbers::position_from` meets its contract. Assumes nothing.
 use borrow.Author.Tests.{eq-eqb, ne-eqb}
-use Rattle.reader.specs.Numbers.{positionFrom}
-use Rattle.reader.proofs.numbers.position_from.Statement.{statement}
-use Rattle.reader.proofs.numbers.position_from.Tie as tie
+use Rattle.state_numbers.specs.Numbers.{positionFrom}
+use Rattle.state_numbers.proofs.position_from.Statement.{statement}
+use Rattle.state_numbers.proofs.position_from.Tie as tie
 
 returns : tie.Need-returns
 unfolding positionFrom

@@ -1,8 +1,8 @@
--- `reader::numbers::phase_from` meets its contract. Assumes nothing.
+-- `state_numbers::phase_from` meets its contract. Assumes nothing.
 use borrow.Author.Tests.{eq-eqb, ne-eqb}
-use Rattle.reader.specs.Numbers.{phaseFrom}
-use Rattle.reader.proofs.numbers.phase_from.Statement.{statement}
-use Rattle.reader.proofs.numbers.phase_from.Tie as tie
+use Rattle.state_numbers.specs.Numbers.{phaseFrom}
+use Rattle.state_numbers.proofs.phase_from.Statement.{statement}
+use Rattle.state_numbers.proofs.phase_from.Tie as tie
 
 returns : tie.Need-returns
 unfolding phaseFrom
