@@ -113,7 +113,7 @@ fn head_numbers(h: Head) -> [u64; 8]
         h.channels as u64,
         h.preskip as u64,
         h.rate as u64,
-        octets::unsigned16(gain) as u64,
+        twos_complement::unsigned16(gain) as u64,
         h.family as u64,
         h.streams as u64,
         h.coupled as u64,
@@ -162,7 +162,7 @@ fn head_from(fields: &[u64; 8], mapping: &[u8; 255]) -> Head
     requires { ⌜ fitting (now fields) ≡ true ⌝ }
     ensures { λ r. ⌜ r ≡ headFrom (now (fields .entry)) (now (mapping .entry)) ⌝ }
 {
-    let gain = octets::signed16(fields[4] as u16);
+    let gain = twos_complement::signed16(fields[4] as u16);
     let places = *mapping;
     Head {
         version: fields[0] as u8,
@@ -250,7 +250,7 @@ pub extern "C" fn embulgri_tags_gain(packet: &[u8], i: u64, gain: &mut u64) -> u
     let read = tags_parts::gain(packet, i as usize);
     match read {
         GainRead::Gain(g) => {
-            *gain = octets::unsigned16(g) as u64;
+            *gain = twos_complement::unsigned16(g) as u64;
             0
         }
         GainRead::Refused(why) => refusal::number(why) as u32,

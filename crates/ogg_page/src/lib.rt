@@ -115,9 +115,9 @@ fn header_of(page: &[u8]) -> PageHeader
 {
     PageHeader {
         flags: octets::byte_at(page, 5),
-        granule: octets::number64(page, 6),
-        serial: octets::number32(page, 14),
-        sequence: octets::number32(page, 18),
+        granule: number_reader::number64(page, 6),
+        serial: number_reader::number32(page, 14),
+        sequence: number_reader::number32(page, 18),
     }
 }
 
@@ -129,7 +129,7 @@ pub fn read_page_with(tables: &[u32; 4096], page: &[u8]) -> PageRead
     if !is_one_page(page) {
         return PageRead::Refused(Refusal::NotOnePage);
     }
-    if ogg_crc::page_checksum_with(tables, page) != octets::number32(page, 22) {
+    if ogg_crc::page_checksum_with(tables, page) != number_reader::number32(page, 22) {
         return PageRead::Refused(Refusal::WrongChecksum);
     }
     PageRead::Page(header_of(page))
@@ -143,7 +143,7 @@ pub fn read_page(page: &[u8]) -> PageRead
     if !is_one_page(page) {
         return PageRead::Refused(Refusal::NotOnePage);
     }
-    if ogg_crc::page_checksum(page) != octets::number32(page, 22) {
+    if ogg_crc::page_checksum(page) != number_reader::number32(page, 22) {
         return PageRead::Refused(Refusal::WrongChecksum);
     }
     PageRead::Page(header_of(page))

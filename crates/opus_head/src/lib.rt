@@ -188,13 +188,13 @@ fn coupled_of(b: &[u8]) -> u8
 fn head_of(b: &[u8]) -> Head
     ensures { λ r. ⌜ r ≡ headOf (now (b .entry)) ⌝ }
 {
-    let gain = octets::signed16(octets::number16(b, 16));
+    let gain = twos_complement::signed16(number_reader::number16(b, 16));
     let mapping = mapping_of(b);
     Head {
         version: octets::byte_at(b, 8),
         channels: octets::byte_at(b, 9),
-        preskip: octets::number16(b, 10),
-        rate: octets::number32(b, 12),
+        preskip: number_reader::number16(b, 10),
+        rate: number_reader::number32(b, 12),
         gain,
         family: octets::byte_at(b, 18),
         streams: streams_of(b),

@@ -1,8 +1,8 @@
--- `octets::signed16` meets its contract. Assumes nothing.
+-- `twos_complement::signed16` meets its contract. Assumes nothing.
 use borrow.Author.Needs.{needs}
-use Rattle.octets.proofs.Signed.{made-fits, made-right}
-use Rattle.octets.proofs.signed16.Statement.{statement}
-use Rattle.octets.proofs.signed16.Tie as tie
+use Rattle.twos_complement.proofs.Signed.{made-fits, made-right}
+use Rattle.twos_complement.proofs.signed16.Statement.{statement}
+use Rattle.twos_complement.proofs.signed16.Tie as tie
 
 pub signed16-spec : {M : Type 1} → statement M
 signed16-spec =

@@ -1,11 +1,11 @@
--- `octets::unsigned16` meets its contract. Assumes nothing.
+-- `twos_complement::unsigned16` meets its contract. Assumes nothing.
 use lib.IntN.{negsuc, _-ℤ_}
 use mir.Syntax.{w16}
 use mir.Val.{toZ, ofZ}
 use mir.Facts.{toZ-ofZ}
-use Rattle.octets.proofs.Signed.{Bits, not-below, Turned, below}
-use Rattle.octets.proofs.unsigned16.Statement.{statement}
-use Rattle.octets.proofs.unsigned16.Tie as tie
+use Rattle.twos_complement.proofs.Signed.{Bits, not-below, Turned, below}
+use Rattle.twos_complement.proofs.unsigned16.Statement.{statement}
+use Rattle.twos_complement.proofs.unsigned16.Tie as tie
 
 positive : (c : tie.Then1) → Bits (c .before .args .g) (toZ w16 (ofZ w16 (c .before .args .g)))
 positive c = not-below (c .before .args .g) _ (toZ-ofZ (c .before .fits .g)) (c .before .fits .g .sfits) (c .if1 .taken)

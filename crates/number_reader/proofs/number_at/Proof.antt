@@ -1,4 +1,4 @@
--- `octets::number_at` meets its contract. The loop's invariant: x is the number in the last j bytes. Assumes nothing.
+-- `number_reader::number_at` meets its contract. The loop's invariant: x is the number in the last j bytes. Assumes nothing.
 use mathlib.Core.Path.{_≡_, refl, sym, ap, _∙_}
 use mathlib.Core.List.{[]}
 use Prim.Native.Nat.{ℕ, suc, _+_, _*_, _-_, _^_, _≤_, _<_}
@@ -9,10 +9,10 @@ use denote.Ref.{now}
 use borrow.Author.Needs.{needs}
 use lib.ListN.{getD, take, drop, drop-of-length-le}
 use lib.Seq.{take-nil}
 use Rattle.octets.specs.Numbers.{value, number}
 use Rattle.octets.proofs.Numbers.{value-more}
-use Rattle.octets.proofs.number_at.Statement.{statement}
-use Rattle.octets.proofs.number_at.Tie as tie
+use Rattle.number_reader.proofs.number_at.Statement.{statement}
+use Rattle.number_reader.proofs.number_at.Tie as tie
 
 abbrev Inv-loop : tie.InvT-loop
 Inv-loop s at n x₀ j₀ x j = (x ≡ value (take j (drop (at + (n - j)) s))) × (x < 256 ^ j) × (j ≤ n)
