@@ -10,14 +10,13 @@ use Rattle.stream.specs.declared.Core.{Core}
 use Rattle.stream.specs.declared.Tally.{Tally}
 use Rattle.stream.specs.declared.Counts.{Counts}
 use Rattle.stream.specs.Feed.{Reader as Known, readerOf, Taken, Fed as Outcome, FedIs}
+use Rattle.core_start.specs.declared.CoreOpened.the-variants.{At as Opened-at, Refused as Unopened}
+use Rattle.core_start.specs.Answers.{toldOpened}
 use Rattle.core_feed.specs.declared.CoreFed.the-variants.{Accepted, Refused}
 use Rattle.core_feed.specs.Answers.{toldCore}
 use Rattle.state_numbers.specs.Numbers.{StandFor}
-use Rattle.reader.specs.declared.Reader.{Reader}
-use Rattle.reader.specs.declared.Opened.the-variants.{At as Opened-at, Refused as Unopened}
 use Rattle.reader.specs.declared.StateOpened.the-variants.{Done, Refused as NotOpened}
 use Rattle.reader.specs.declared.StateFed.the-variants.{Accepted as Taken-in, Refused as Turned-away}
-use Rattle.reader.specs.Answers.{knownAs, toldOpened}
 use Rattle.reader.specs.Numbers.{StateOpenedIs, StateFedIs}
 
 -- ---- opening part way
@@ -27,11 +26,12 @@ openedIn (gives k) other = k
 openedIn (refuses n) other = other
 
 module _ {f : Told Known} {old : List ℕ} where
-  pub state-opened : {new : List ℕ} (r : Reader) → toldOpened (Opened-at r) ≡ f → StandFor new (knownAs r) → StateOpenedIs f Done old new
-  state-opened r e s = record {
+  pub state-opened : {new : List ℕ} (core : Core) (tally : Tally) → toldOpened (Opened-at core tally) ≡ f → StandFor new (readerOf core tally)
+      → StateOpenedIs f Done old new
+  state-opened core tally e s = record {
     told = rw (← e);
     numbers = rw (← e) (s .numbers);
-    stand = λ k q. s .back ∙ ap (λ (x : Told Known). openedIn x (knownAs r)) (e ∙ q);
+    stand = λ k q. s .back ∙ ap (λ (x : Told Known). openedIn x (readerOf core tally)) (e ∙ q);
   }
 
   pub state-unopened : (why : Refusal) → toldOpened (Unopened why) ≡ f → StateOpenedIs f (NotOpened why) old old

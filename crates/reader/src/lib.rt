@@ -15,13 +15,12 @@ ghost use Rattle.state_numbers.specs.Numbers.{StandFor, readerFrom};
 ghost use Rattle.reader.specs.Answers.{knownAs, toldOpened, toldFed};
 ghost use Rattle.reader.specs.Numbers.{StateOpenedIs, StateFedIs};
 use core_feed::CoreFed;
+use core_start::CoreOpened;
 use granule::Position;
 use opus_head::Head;
 use refusal::Refusal;
 use stream::Core;
 use stream::Counts;
-use stream::Pending;
-use stream::Phase;
 use stream::Tally;
 
 // A reader comes only from starting, opening and feeding.
@@ -46,15 +45,7 @@ pub fn start() -> Reader
     ensures { λ r. ⌜ knownAs r ≡ started ⌝ }
 {
     Reader {
-        core: Core {
-            phase: Phase::First,
-            pending: Pending::Nothing,
-            position: Position::Unset,
-            serial: 0,
-            next: 0,
-            streams: 0,
-            preskip: 0,
-        },
+        core: core_start::start_core(),
         tally: Tally { skip: 0 },
     }
 }
@@ -63,21 +54,10 @@ pub fn start() -> Reader
 pub fn open(head: Head) -> Opened
     ensures { λ r. ⌜ toldOpened r ≡ openPartWay head ⌝ }
 {
-    if !opus_head::right_head(head) {
-        return Opened::Refused(Refusal::UnfitFields);
+    match core_start::open_core(head) {
+        CoreOpened::At(core, tally) => Opened::At(Reader { core, tally }),
+        CoreOpened::Refused(why) => Opened::Refused(why),
     }
-    Opened::At(Reader {
-        core: Core {
-            phase: Phase::Opened,
-            pending: Pending::Nothing,
-            position: Position::Joined,
-            serial: 0,
-            next: 0,
-            streams: head.streams,
-            preskip: head.preskip,
-        },
-        tally: Tally { skip: 0 },
-    })
 }
 
 // The serial of the last page accepted, 0 before the first.
@@ -181,20 +161,19 @@ pub enum StateFed {
 pub fn start_state() -> [u64; 16]
     ensures { λ r. ⌜ StandFor r started ⌝ }
 {
-    let reader = start();
-    state_numbers::numbers_of(reader.core, reader.tally)
+    state_numbers::numbers_of(core_start::start_core(), Tally { skip: 0 })
 }
 
 // The same as `open`, into sixteen numbers. A refusal changes none.
 pub fn open_state(head: Head, state: &mut [u64; 16]) -> StateOpened
     ensures { λ r. ⌜ StateOpenedIs (openPartWay head) r (now (state .entry)) (now (state .exit)) ⌝ }
 {
-    match open(head) {
-        Opened::At(reader) => {
-            *state = state_numbers::numbers_of(reader.core, reader.tally);
+    match core_start::open_core(head) {
+        CoreOpened::At(core, tally) => {
+            *state = state_numbers::numbers_of(core, tally);
             StateOpened::Done
         }
-        Opened::Refused(why) => StateOpened::Refused(why),
+        CoreOpened::Refused(why) => StateOpened::Refused(why),
     }
 }
 
