@@ -3,7 +3,7 @@ ghost use mathlib.Core.Path.{_≡_};
 ghost use Rattle.stream.specs.Feed.{start, openPartWay};
 ghost use Rattle.core_start.specs.Answers.{toldOpened};
 use granule::Position;
-use opus_head::Head;
+use head_fields::Head;
 use refusal::Refusal;
 use stream::Core;
 use stream::Pending;
@@ -33,7 +33,7 @@ pub fn start_core() -> Core
 pub fn open_core(head: Head) -> CoreOpened
     ensures { λ r. ⌜ toldOpened r ≡ openPartWay head ⌝ }
 {
-    if !opus_head::right_head(head) {
+    if !head_fields::right_head(head) {
         return CoreOpened::Refused(Refusal::UnfitFields);
     }
     let core = Core {

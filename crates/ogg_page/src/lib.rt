@@ -1,4 +1,4 @@
-// Ogg pages (RFC 3533): reading one, where one would end, its lacing values.
+// Ogg pages (RFC 3533): reading one, where one would end, where its lacing values and its body lie.
 ghost use mathlib.Core.Path.{_≡_};
 ghost use Prim.Native.Nat.{_≤_, _<_, _^_};
 ghost use Rattle.ogg_crc.specs.Crc.{pageCrc};
@@ -8,8 +8,6 @@ ghost use Rattle.ogg_page.specs.Page.{hasCapture, headerOf, lacingOf, bo
 ghost use Rattle.ogg_page.specs.Extent.{extentIn, pageExtent};
 ghost use Rattle.ogg_page.specs.Reading.{isOnePage, readPage, toldRead};
 use refusal::Refusal;
-
-pub mod lacing;
 
 // The fields of a page before its lacing values. Flags: 1 continued, 2 first, 4 last.
 pub struct PageHeader {

@@ -17,7 +17,7 @@ ghost use Rattle.reader.specs.Numbers.{StateOpenedIs, StateFedIs};
 use core_feed::CoreFed;
 use core_start::CoreOpened;
 use granule::Position;
-use opus_head::Head;
+use head_fields::Head;
 use refusal::Refusal;
 use stream::Core;
 use stream::Counts;
