@@ -17,7 +17,7 @@ use Rattle.refusal.specs.declared.Refusal.the-variants.{ShortRoom, PacketTooLon
 use Rattle.refusal.specs.Checks.{firstOf}
 use Rattle.refusal.specs.Told.{Told}
 use Rattle.ogg_page.specs.declared.PageHeader.{PageHeader}
-use Rattle.ogg_page.specs.Lacing.{unfinishedFrom, isBody}
+use Rattle.lacing.specs.Lacing.{unfinishedFrom, isBody}
 use Rattle.stream.specs.declared.Phase.{Phase}
 use Rattle.stream.specs.declared.Phase.the-variants.{First, Comment, Audio, Opened, Ended as Over}
 use Rattle.stream.specs.declared.Pending.{Pending}

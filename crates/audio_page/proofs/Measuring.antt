@@ -12,7 +12,7 @@ use Rattle.octets.specs.Octets.{Bytes, total}
 use Rattle.refusal.specs.declared.Refusal.{Refusal}
 use Rattle.refusal.specs.Told.{Told, gives, refuses}
 use Rattle.refusal.specs.Numbers.{numberOf}
-use Rattle.ogg_page.specs.Lacing.{cutFrom}
+use Rattle.lacing.specs.Lacing.{cutFrom}
 use Rattle.opus_packet.specs.declared.PacketRead.{PacketRead}
 use Rattle.opus_packet.specs.Streams.{readPacket, toldPacket}
 use Rattle.opus_packet.proofs.Legal.{legal-lengths}

@@ -14,7 +14,7 @@ use lib.Seq.{take-paste, length-take-le, take-all, drop-drop}
 use Rattle.octets.specs.Pick.{pick}
 use Rattle.octets.specs.Octets.{Bytes, total, copied}
 use Rattle.octets.proofs.Copying.{copied-fits}
-use Rattle.ogg_page.specs.Lacing.{cutFrom, unfinishedFrom}
+use Rattle.lacing.specs.Lacing.{cutFrom, unfinishedFrom}
 use Rattle.stream.specs.declared.Phase.the-variants.{Audio}
 use Rattle.stream.specs.declared.Pending.{Pending}
 use Rattle.stream.specs.declared.Pending.the-variants.{Nothing, Held, Dropped}

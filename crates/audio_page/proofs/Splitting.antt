@@ -11,7 +11,7 @@ use lib.Dec.{ltb}
 use lib.ListN.{length, take, drop}
 use Rattle.octets.specs.Pick.{pick}
 use Rattle.octets.specs.Octets.{Bytes, total}
-use Rattle.ogg_page.specs.Lacing.{cutFrom, unfinishedFrom}
+use Rattle.lacing.specs.Lacing.{cutFrom, unfinishedFrom}
 use Rattle.stream.specs.Page.{ends, wholeFrom}
 use Rattle.stream.specs.Packets.{tooLong, longFrom, afterFirst}
 use Rattle.stream.proofs.Pieces.{onwards}

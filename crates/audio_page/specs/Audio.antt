@@ -6,7 +6,7 @@ use Rattle.octets.specs.Pick.{pick}
 use Rattle.refusal.specs.Checks.{Check, firstOf}
 use Rattle.refusal.specs.Told.{Told, gives, refuses}
 use Rattle.refusal.specs.Numbers.{numberOf}
-use Rattle.ogg_page.specs.Lacing.{isBody}
+use Rattle.lacing.specs.Lacing.{isBody}
 use Rattle.stream.specs.declared.Phase.{Phase}
 use Rattle.stream.specs.Page.{Page}
 use Rattle.stream.specs.Readings.{Readings}

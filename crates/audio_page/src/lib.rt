@@ -12,7 +12,7 @@ ghost use Rattle.stream.specs.Feed.{readerOf, lentOf, FedIs};
 ghost use Rattle.stream.specs.State.{isAudio};
 ghost use Rattle.audio_page.specs.Audio.{feedAudio, audioOn, toldAudio};
 ghost use Rattle.audio_page.specs.Code.{granuleWrong, freshBy, lateFed, Fitting, Sounding, Silent};
-ghost use Rattle.ogg_page.specs.Lacing.{isBody};
+ghost use Rattle.lacing.specs.Lacing.{isBody};
 use granule::Position;
 use lacing_checks::Scan;
 use ogg_page::PageHeader;
@@ -174,7 +174,7 @@ fn is_fed(phase: Phase, short: bool, lacing: &[u8], body: &[u8]) -> bool
     if short {
         return false;
     }
-    ogg_page::lacing::is_body(lacing, body)
+    lacing::is_body(lacing, body)
 }
 
 // Feeds one audio page, with the fields `h`, to the state that expects it, after refusals 2 to 8. 9: a packet would pass

@@ -79,7 +79,7 @@ fn measure(
         i += 1;
         if v < 255 {
             let end = start + bytes;
-            match opus_packet::read_packet(&body[start..end], streams) {
+            match opus_packet::read_packet_quick(&body[start..end], streams) {
                 PacketRead::Refused(why) => return Lengths::Refused(why),
                 PacketRead::Samples(s) => {
                     lens[count] = s;

@@ -12,7 +12,7 @@ use Rattle.refusal.specs.Checks.{firstOf}
 use Rattle.refusal.specs.Told.{Told}
 use Rattle.ogg_page.specs.declared.PageHeader.{PageHeader}
 use Rattle.ogg_page.specs.Page.{lacingOf, bodyOf}
-use Rattle.ogg_page.specs.Lacing.{isBody}
+use Rattle.lacing.specs.Lacing.{isBody}
 use Rattle.ogg_page.proofs.Whole.{body-length}
 use Rattle.stream.specs.declared.Phase.{Phase}
 use Rattle.stream.specs.declared.Phase.the-variants.{First, Comment, Audio, Opened, Ended}

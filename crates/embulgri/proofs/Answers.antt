@@ -22,7 +22,7 @@ use Rattle.ogg_page.specs.Reading.{readPage, toldRead}
 use Rattle.page_writer.specs.declared.PageWritten.{PageWritten}
 use Rattle.page_writer.specs.declared.PageWritten.the-variants.{Bytes as PageBytes, Refused as PageRefused}
 use Rattle.page_writer.specs.Writing.{writeChecks, writeTold as pageTold, writeOut as pageOut, toldWritten as toldPage, Wrote as WrotePage}
-use Rattle.opus_head.specs.declared.Head.{Head}
+use Rattle.head_fields.specs.declared.Head.{Head}
 use Rattle.opus_head.specs.declared.HeadRead.{HeadRead}
 use Rattle.opus_head.specs.declared.Verdict.{Verdict}
 use Rattle.opus_head.specs.declared.Verdict.the-variants.{Right, Refused}

@@ -5,12 +5,13 @@ use mathlib.Core.Bool.{true, false}
 use mathlib.Core.List.{List}
 use Rattle.octets.specs.Octets.{Bytes}
 use Rattle.refusal.specs.Told.{Told, gives, refuses, retold, numberIn}
-use Rattle.opus_head.specs.declared.Head.{Head}
+use Rattle.head_fields.specs.declared.Head.{Head}
 use Rattle.stream.specs.declared.Counts.{Counts}
 use Rattle.stream.specs.Feed.{Reader, openPartWay, Lent, lentOf, Taken}
+use Rattle.state_numbers.specs.Numbers.{numbersOf}
 use Rattle.reader.specs.declared.StateOpened.{StateOpened}
 use Rattle.reader.specs.declared.StateFed.{StateFed}
-use Rattle.reader.specs.Numbers.{numbersOf, openedNumber, numbersOpened, StateOpenedIs, toldState, numbersAfter, StateFedIs}
+use Rattle.reader.specs.Numbers.{openedNumber, numbersOpened, StateOpenedIs, toldState, numbersAfter, StateFedIs}
 use Rattle.embulgri.specs.Answers.{stored, fitting, headFrom}
 use Rattle.embulgri.specs.Feeding.{openTold, OpenedIn, pageRecord, fedOf, FedIn}
 

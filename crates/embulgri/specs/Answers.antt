@@ -17,7 +17,7 @@ use Rattle.ogg_page.specs.Page.{lacingOf, bodyOf}
 use Rattle.ogg_page.specs.Reading.{readPage}
 use Rattle.page_writer.specs.Writing.{writeTold, writeOut}
 use Rattle.opus_packet.specs.Streams.{readPacket}
-use Rattle.opus_head.specs.declared.Head.{Head}
+use Rattle.head_fields.specs.declared.Head.{Head}
 use Rattle.opus_head.specs.Reading.{readHead}
 use Rattle.head_writer.specs.Writing as headWriting
 use Rattle.opus_tags.specs.declared.Part.{Part}

@@ -10,7 +10,7 @@ use Rattle.ogg_crc.specs.Crc.{pageCrc}
 use Rattle.stream.specs.declared.Counts.{Counts}
 use Rattle.stream.specs.Readings.{readings}
 use Rattle.stream.specs.Feed.{Reader, openPartWay, Lent, Taken, Fed, feed}
-use Rattle.reader.specs.Numbers.{numbersOf, readerFrom}
+use Rattle.state_numbers.specs.Numbers.{numbersOf, readerFrom}
 use Rattle.embulgri.specs.Answers.{stored, Answered, fitting, headFrom}
 
 -- ---- opening part way

@@ -4,16 +4,16 @@ ghost use mathlib.Core.Bool.{true};
 ghost use Rattle.ogg_crc.specs.Crc.{crc};
 ghost use Rattle.opus_tags.specs.Reading.{toldPart};
 ghost use Rattle.stream.specs.Feed.{start as started, lentOf};
-ghost use Rattle.reader.specs.Numbers.{numbersOf};
+ghost use Rattle.state_numbers.specs.Numbers.{numbersOf};
 ghost use Rattle.embulgri.specs.Answers.{PageIn, PageOut, PacketIn, HeadIn, HeadLaid, headNumbers, fitting, headFrom, TagsIn, PartIn, VendorIn, CommentIn, GainIn, TagsOut, ClockAfter};
 ghost use Rattle.embulgri.specs.Feeding.{OpenedIn, pageRecord, FedIn};
+use head_fields::Head;
 use head_writer::HeadWritten;
 use ogg_page::PageHeader;
 use ogg_page::PageRead;
 use old_clock::Added;
 use old_clock::Clock;
 use opus_comment::GainRead;
-use opus_head::Head;
 use opus_head::Verdict;
 use opus_packet::PacketRead;
 use opus_tags::PartRead;
@@ -113,7 +113,7 @@ fn head_numbers(h: Head) -> [u64; 8]
         h.channels as u64,
         h.preskip as u64,
         h.rate as u64,
-        octets::unsigned16(gain) as u64,
+        twos_complement::unsigned16(gain) as u64,
         h.family as u64,
         h.streams as u64,
         h.coupled as u64,
@@ -162,7 +162,7 @@ fn head_from(fields: &[u64; 8], mapping: &[u8; 255]) -> Head
     requires { ⌜ fitting (now fields) ≡ true ⌝ }
     ensures { λ r. ⌜ r ≡ headFrom (now (fields .entry)) (now (mapping .entry)) ⌝ }
 {
-    let gain = octets::signed16(fields[4] as u16);
+    let gain = twos_complement::signed16(fields[4] as u16);
     let places = *mapping;
     Head {
         version: fields[0] as u8,
@@ -250,7 +250,7 @@ pub extern "C" fn embulgri_tags_gain(packet: &[u8], i: u64, gain: &mut u64) -> u
     let read = tags_parts::gain(packet, i as usize);
     match read {
         GainRead::Gain(g) => {
-            *gain = octets::unsigned16(g) as u64;
+            *gain = twos_complement::unsigned16(g) as u64;
             0
         }
         GainRead::Refused(why) => refusal::number(why) as u32,

@@ -104,9 +104,9 @@ fn bytes_of(out: &[u8], at: usize, next: usize, end: u64, size: u64, kept: u64) 
         kept,
         digits: tail - 4 - at,
         length,
-        upper: octets::number64(out, at),
-        first: octets::number64(out, tail),
-        last: octets::number64(out, next - 8),
+        upper: number_reader::number64(out, at),
+        first: number_reader::number64(out, tail),
+        last: number_reader::number64(out, next - 8),
     }
 }
 

@@ -9,8 +9,8 @@ use Rattle.octets.specs.Octets.{Bytes, copied}
 use Rattle.refusal.specs.declared.Refusal.{Refusal}
 use Rattle.refusal.specs.declared.Refusal.the-variants.{ShortOutput, UnfitFields}
 use Rattle.refusal.specs.Checks.{firstOf}
-use Rattle.opus_head.specs.declared.Head.{Head}
-use Rattle.opus_head.specs.Right.{tableLength, rightHead}
+use Rattle.head_fields.specs.declared.Head.{Head}
+use Rattle.head_fields.specs.Right.{tableLength, rightHead}
 use Rattle.head_writer.specs.declared.HeadWritten.the-variants.{Bytes as Written, Refused as NotWritten}
 use Rattle.head_writer.specs.Writing.{headBytes, headSize, writeChecks, writeTold, writeOut, Wrote}
 

@@ -11,8 +11,8 @@ use lib.Seq.{length-take-le}
 use Rattle.octets.specs.Octets.{Bytes, copied}
 use Rattle.octets.specs.Numbers.{octets}
 use Rattle.octets.proofs.Copying.{copied-next}
-use Rattle.opus_head.specs.declared.Head.{Head}
-use Rattle.opus_head.specs.Right.{usedPlaces}
+use Rattle.head_fields.specs.declared.Head.{Head}
+use Rattle.head_fields.specs.Right.{usedPlaces}
 use Rattle.head_writer.specs.Writing.{startOf, headBytes, headSize}
 
 -- a copy right behind one at the front

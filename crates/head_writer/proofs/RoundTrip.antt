@@ -21,9 +21,9 @@ use Rattle.octets.proofs.Tests.{both, equal-and}
 use Rattle.refusal.proofs.Checks.{no-refusal, passed}
 use Rattle.refusal.specs.Checks.{firstOf}
 use Rattle.refusal.specs.Told.{gives}
-use Rattle.opus_head.specs.declared.Head.{Head}
-use Rattle.opus_head.specs.Fields.{signature, plainIndices, hasTable, streamsOf, coupledOf, indicesOf, places, headOf}
-use Rattle.opus_head.specs.Right.{unusedPlaces, usedPlaces, allZero, rightPlain, rightMapping, rightHead}
+use Rattle.head_fields.specs.declared.Head.{Head}
+use Rattle.opus_head.specs.Fields.{signature, streamsOf, coupledOf, indicesOf, places, headOf}
+use Rattle.head_fields.specs.Right.{plainIndices, hasTable, unusedPlaces, usedPlaces, allZero, rightPlain, rightMapping, rightHead}
 use Rattle.opus_head.specs.Reading.{isHead, readHead}
 use Rattle.opus_head.proofs.Mapping.{used-places, places-used, channels-most, plain-length}
 use Rattle.opus_head.proofs.ReadRight.{Read, allowed, read, indexed, read-is-right}

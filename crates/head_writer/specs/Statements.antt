@@ -6,7 +6,7 @@ use mir.Syntax.{w16}
 use mir.Val.{SFits}
 use Rattle.octets.specs.Octets.{Bytes, Octets, copied}
 use Rattle.refusal.specs.Told.{gives}
-use Rattle.opus_head.specs.declared.Head.{Head}
+use Rattle.head_fields.specs.declared.Head.{Head}
 use Rattle.opus_head.specs.Reading.{readHead}
 use Rattle.head_writer.specs.Writing.{headSize, writeTold, writeOut}
 

@@ -16,11 +16,11 @@ use Rattle.refusal.specs.declared.Refusal.the-variants.{ShortOutput, UnfitField
 use Rattle.refusal.specs.Checks.{Check, _when_, firstOf}
 use Rattle.refusal.specs.Told.{Told, gives, refuses, decided}
 use Rattle.refusal.specs.Numbers.{numberOf}
-use Rattle.opus_head.specs.declared.Head.{Head}
+use Rattle.head_fields.specs.declared.Head.{Head}
 use Rattle.head_writer.specs.declared.HeadWritten.{HeadWritten}
 use Rattle.head_writer.specs.declared.HeadWritten.the-variants.{Bytes as Written, Refused}
-use Rattle.opus_head.specs.Fields.{signature, hasTable}
-use Rattle.opus_head.specs.Right.{tableLength, usedPlaces, rightHead}
+use Rattle.opus_head.specs.Fields.{signature}
+use Rattle.head_fields.specs.Right.{hasTable, tableLength, usedPlaces, rightHead}
 
 -- the 19 bytes before the table
 unfoldable pub startOf : Head → Bytes

@@ -4,7 +4,7 @@ ghost use Prim.Native.Nat.{_≤_};
 ghost use lib.ListN.{length};
 ghost use Rattle.octets.specs.Octets.{copied};
 ghost use Rattle.head_writer.specs.Writing.{startOf, headBytes, headSize, Wrote};
-use opus_head::Head;
+use head_fields::Head;
 use refusal::Refusal;
 
 pub enum HeadWritten {
@@ -19,7 +19,7 @@ fn start_of(h: Head) -> [u8; 19]
     let gain = h.gain;
     let p = number_writer::octets64(h.preskip as u64);
     let r = number_writer::octets64(h.rate as u64);
-    let g = number_writer::octets64(octets::unsigned16(gain) as u64);
+    let g = number_writer::octets64(twos_complement::unsigned16(gain) as u64);
     [
         0x4f,
         0x70,
@@ -64,10 +64,10 @@ fn put_head(h: Head, out: &mut [u8])
 pub fn write_head(h: Head, out: &mut [u8]) -> HeadWritten
     ensures { λ r. ⌜ Wrote h (now (out .entry)) r (now (out .exit)) ⌝ }
 {
-    if !opus_head::right_head(h) {
+    if !head_fields::right_head(h) {
         return HeadWritten::Refused(Refusal::UnfitFields);
     }
-    let size = 19 + opus_head::table_length(h.family, h.channels);
+    let size = 19 + head_fields::table_length(h.family, h.channels);
     if out.len() < size {
         return HeadWritten::Refused(Refusal::ShortOutput);
     }

@@ -11,7 +11,7 @@ use Rattle.octets.proofs.Tests.{both}
 use Rattle.refusal.specs.declared.Refusal.the-variants.{ShortRoom}
 use Rattle.refusal.specs.Told.{Told}
 use Rattle.ogg_page.specs.declared.PageHeader.{PageHeader}
-use Rattle.ogg_page.specs.Lacing.{isBody}
+use Rattle.lacing.specs.Lacing.{isBody}
 use Rattle.stream.specs.declared.Phase.{Phase}
 use Rattle.stream.specs.declared.Phase.the-variants.{First, Comment, Audio, Opened, Ended}
 use Rattle.stream.specs.declared.Pending.{Pending}

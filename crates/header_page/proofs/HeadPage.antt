@@ -15,9 +15,9 @@ use Rattle.refusal.specs.Numbers.{numberOf}
 use Rattle.refusal.specs.Told.{gives, refuses, decided}
 use Rattle.refusal.proofs.Checks.{no-refusal}
 use Rattle.ogg_page.specs.declared.PageHeader.{PageHeader}
-use Rattle.opus_head.specs.declared.Head.{Head}
+use Rattle.head_fields.specs.declared.Head.{Head}
 use Rattle.opus_head.specs.Fields.{headOf}
-use Rattle.opus_head.specs.Right.{rightMapping}
+use Rattle.head_fields.specs.Right.{rightMapping}
 use Rattle.opus_head.specs.Reading.{isHead, readChecks, readHead}
 use Rattle.stream.specs.declared.Phase.the-variants.{First, Comment}
 use Rattle.stream.specs.declared.Pending.the-variants.{Nothing}

@@ -7,7 +7,7 @@ ghost use Prim.Native.Nat.{ℕ, _≤_};
 ghost use lib.Dec.{ltb};
 ghost use lib.ListN.{length};
 ghost use Rattle.octets.specs.Octets.{Bytes, total};
-ghost use Rattle.ogg_page.specs.Lacing.{isBody};
+ghost use Rattle.lacing.specs.Lacing.{isBody};
 ghost use Rattle.stream.specs.declared.Phase.the-variants.{First as InFirst, Comment as InComment};
 ghost use Rattle.stream.specs.declared.Pending.the-variants.{Nothing as NoneLeft};
 ghost use Rattle.stream.specs.declared.Tally.{Tally as Counting};
@@ -209,7 +209,7 @@ fn is_fed(phase: Phase, pending: Pending, room: usize, lacing: &[u8], body: &[u8
     if room < 61440 {
         return false;
     }
-    ogg_page::lacing::is_body(lacing, body)
+    lacing::is_body(lacing, body)
 }
 
 // Feeds one page of the two headers, with the fields `h`, to the state that expects it, after refusals 2 to 8. 9: the packet

@@ -11,7 +11,7 @@ use lib.ListN.{length, take, drop}
 use lib.Seq.{take-all}
 use Rattle.octets.specs.Pick.{pick}
 use Rattle.octets.specs.Octets.{Bytes, total}
-use Rattle.ogg_page.specs.Lacing.{unfinishedFrom, cutFrom}
+use Rattle.lacing.specs.Lacing.{unfinishedFrom, cutFrom}
 use Rattle.stream.specs.Page.{Page, wholeFrom, restFrom, whole, rest}
 use Rattle.stream.specs.Rules.{onePiece}
 use Rattle.stream.proofs.Pieces.{onwards}

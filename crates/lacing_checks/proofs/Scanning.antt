@@ -8,7 +8,7 @@ use borrow.Author.Tests.{lt-ltb, le-ltb}
 use lib.Dec.{ltb}
 use Rattle.octets.specs.Pick.{pick}
 use Rattle.octets.specs.Octets.{Bytes}
-use Rattle.ogg_page.specs.Lacing.{endedFrom, unfinishedFrom}
+use Rattle.lacing.specs.Lacing.{endedFrom, unfinishedFrom}
 use Rattle.stream.specs.Packets.{packetMax, tooLong, anyLong, longFrom, afterFirst, isLong}
 use Rattle.stream.specs.declared.Pending.{Pending}
 use Rattle.stream.specs.declared.Pending.the-variants.{Nothing, Held, Dropped}

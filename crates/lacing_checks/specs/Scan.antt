@@ -2,7 +2,7 @@
 use Prim.Native.Nat.{ℕ}
 use Rattle.octets.specs.Pick.{pick}
 use Rattle.octets.specs.Octets.{Bytes}
-use Rattle.ogg_page.specs.Lacing.{unfinishedFrom}
+use Rattle.lacing.specs.Lacing.{unfinishedFrom}
 use Rattle.stream.specs.declared.Pending.{Pending}
 use Rattle.stream.specs.declared.Pending.the-variants.{Nothing, Held, Dropped}
 use Rattle.stream.specs.Packets.{longFrom, afterFirst}

@@ -4,4 +4,3 @@ pub mod Parts
 pub mod Fields
 pub mod Tests
 pub mod Beginnings
-pub mod Signed

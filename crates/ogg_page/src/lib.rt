@@ -1,4 +1,4 @@
-// Ogg pages (RFC 3533): reading one, where one would end, its lacing values.
+// Ogg pages (RFC 3533): reading one, where one would end, where its lacing values and its body lie.
 ghost use mathlib.Core.Path.{_≡_};
 ghost use Prim.Native.Nat.{_≤_, _<_, _^_};
 ghost use Rattle.ogg_crc.specs.Crc.{pageCrc};
@@ -8,8 +8,6 @@ ghost use Rattle.ogg_page.specs.Page.{hasCapture, headerOf, lacingOf, bo
 ghost use Rattle.ogg_page.specs.Extent.{extentIn, pageExtent};
 ghost use Rattle.ogg_page.specs.Reading.{isOnePage, readPage, toldRead};
 use refusal::Refusal;
-
-pub mod lacing;
 
 // The fields of a page before its lacing values. Flags: 1 continued, 2 first, 4 last.
 pub struct PageHeader {
@@ -115,9 +113,9 @@ fn header_of(page: &[u8]) -> PageHeader
 {
     PageHeader {
         flags: octets::byte_at(page, 5),
-        granule: octets::number64(page, 6),
-        serial: octets::number32(page, 14),
-        sequence: octets::number32(page, 18),
+        granule: number_reader::number64(page, 6),
+        serial: number_reader::number32(page, 14),
+        sequence: number_reader::number32(page, 18),
     }
 }
 
@@ -129,7 +127,7 @@ pub fn read_page_with(tables: &[u32; 4096], page: &[u8]) -> PageRead
     if !is_one_page(page) {
         return PageRead::Refused(Refusal::NotOnePage);
     }
-    if ogg_crc::page_checksum_with(tables, page) != octets::number32(page, 22) {
+    if ogg_crc::page_checksum_with(tables, page) != number_reader::number32(page, 22) {
         return PageRead::Refused(Refusal::WrongChecksum);
     }
     PageRead::Page(header_of(page))
@@ -143,7 +141,7 @@ pub fn read_page(page: &[u8]) -> PageRead
     if !is_one_page(page) {
         return PageRead::Refused(Refusal::NotOnePage);
     }
-    if ogg_crc::page_checksum(page) != octets::number32(page, 22) {
+    if ogg_crc::page_checksum(page) != number_reader::number32(page, 22) {
         return PageRead::Refused(Refusal::WrongChecksum);
     }
     PageRead::Page(header_of(page))

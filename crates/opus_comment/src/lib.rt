@@ -184,5 +184,5 @@ pub fn comment_gain(c: &[u8]) -> GainRead
     if !right_gain(value) {
         return GainRead::Refused(Refusal::BadGain);
     }
-    GainRead::Gain(octets::signed16(gain_bits(value)))
+    GainRead::Gain(twos_complement::signed16(gain_bits(value)))
 }

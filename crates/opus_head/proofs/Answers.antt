@@ -6,11 +6,11 @@ use Rattle.refusal.specs.declared.Refusal.{Refusal}
 use Rattle.refusal.specs.Checks.{firstOf}
 use Rattle.refusal.specs.Numbers.{numberOf}
 use Rattle.refusal.specs.Told.{gives, refuses}
-use Rattle.opus_head.specs.declared.Head.{Head}
+use Rattle.head_fields.specs.declared.Head.{Head}
 use Rattle.opus_head.specs.declared.HeadRead.{HeadRead}
 use Rattle.opus_head.specs.declared.Verdict.the-variants.{Right, Refused}
 use Rattle.opus_head.specs.Fields.{headOf}
-use Rattle.opus_head.specs.Right.{rightMapping}
+use Rattle.head_fields.specs.Right.{rightMapping}
 use Rattle.opus_head.specs.Reading.{isHead, readHead, noHead, HeadIs}
 
 module _ (b : Bytes) where

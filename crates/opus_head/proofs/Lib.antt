@@ -1,5 +1,4 @@
 pub mod Answers
-pub mod Checks
 pub mod Mapping
 pub mod Places
 pub mod ReadRight

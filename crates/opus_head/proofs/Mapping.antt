@@ -12,8 +12,8 @@ use lib.Seq.{length-take-le, take-at, drop-at}
 use Rattle.octets.specs.Octets.{Bytes}
 use Rattle.octets.specs.Pick.{pick}
 use Rattle.octets.proofs.Tests.{both, equal-and}
-use Rattle.opus_head.specs.Fields.{plainIndices, places}
-use Rattle.opus_head.specs.Right.{mostChannels, allowedChannels, allZero}
+use Rattle.opus_head.specs.Fields.{places}
+use Rattle.head_fields.specs.Right.{plainIndices, mostChannels, allowedChannels, allZero}
 
 -- the used places and the zeros behind them
 

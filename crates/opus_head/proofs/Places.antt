@@ -12,8 +12,8 @@ use lib.ListN.{length, getD, take, drop, replicate, length-replicate, length-tak
 use lib.Seq.{take-all}
 use Rattle.octets.specs.Octets.{Bytes, begins, copied}
 use Rattle.octets.proofs.Copying.{copied-next}
-use Rattle.opus_head.specs.Fields.{signature, plainIndices, streamsOf, coupledOf, indicesOf, places}
-use Rattle.opus_head.specs.Right.{tableLength}
+use Rattle.opus_head.specs.Fields.{signature, streamsOf, coupledOf, indicesOf, places}
+use Rattle.head_fields.specs.Right.{plainIndices, tableLength}
 use Rattle.opus_head.specs.Reading.{isHead}
 
 -- ---- by the family

@@ -13,9 +13,9 @@ use Rattle.octets.proofs.Tests.{both, equal-and}
 use Rattle.refusal.proofs.Checks.{no-refusal, passed}
 use Rattle.refusal.specs.Checks.{firstOf}
 use Rattle.refusal.specs.Told.{gives}
-use Rattle.opus_head.specs.declared.Head.{Head}
-use Rattle.opus_head.specs.Fields.{signature, plainIndices, streamsOf, coupledOf, indicesOf, places, headOf}
-use Rattle.opus_head.specs.Right.{rightVersion, tableLength, allowedChannels, usedPlaces, rightStreams, rightIndices, rightPlain, rightMapping, rightHead}
+use Rattle.head_fields.specs.declared.Head.{Head}
+use Rattle.opus_head.specs.Fields.{signature, streamsOf, coupledOf, indicesOf, places, headOf}
+use Rattle.head_fields.specs.Right.{plainIndices, rightVersion, tableLength, allowedChannels, usedPlaces, rightStreams, rightIndices, rightPlain, rightMapping, rightHead}
 use Rattle.opus_head.specs.Reading.{isHead, readChecks, readHead}
 use Rattle.opus_head.specs.Statements.{ReadIsRight}
 use Rattle.opus_head.proofs.Mapping.{unused-zero, plain-length}

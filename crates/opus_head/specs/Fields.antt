@@ -1,29 +1,19 @@
 -- The fields of an identification header by their places (RFC 7845, 5.1; document 01, "Identification header"). A place past
 -- the end of the bytes reads as zero. Assumes nothing.
 use Prim.Native.Nat.{ℕ, _-_}
-use mathlib.Core.Bool.{Bool, true, false}
 use mathlib.Core.List.{[], _∷_, _++_}
-use lib.Dec.{eqb}
 use lib.ListN.{length, getD, take, drop, replicate}
 use mir.Syntax.{w16}
 use mir.Val.{toZ}
 use Rattle.octets.specs.Pick.{pick}
 use Rattle.octets.specs.Octets.{Bytes}
 use Rattle.octets.specs.Numbers.{number}
-use Rattle.opus_head.specs.declared.Head.{Head}
+use Rattle.head_fields.specs.declared.Head.{Head}
+use Rattle.head_fields.specs.Right.{plainIndices, hasTable}
 
 -- "OpusHead"
 abbrev pub signature : Bytes
 signature = 0x4f ∷ 0x70 ∷ 0x75 ∷ 0x73 ∷ 0x48 ∷ 0x65 ∷ 0x61 ∷ 0x64 ∷ []
-
--- the mapping of family 0: one channel, or two of one coupled stream
-abbrev pub plainIndices : Bytes
-plainIndices = 0 ∷ 1 ∷ []
-
--- the table behind the family, which family 0 does not have: the number of streams, of coupled ones, and an index for each
--- channel
-abbrev pub hasTable : ℕ → Bool
-hasTable family = pick (eqb family 0) false true
 
 unfoldable pub streamsOf : Bytes → ℕ
 streamsOf b = pick (hasTable (getD b 18 0)) (getD b 19 0) 1

@@ -1,4 +1,3 @@
 pub mod Fields
-pub mod Right
 pub mod Reading
 pub mod Statements

@@ -12,12 +12,12 @@ use Rattle.refusal.specs.declared.Refusal.the-variants.{BadHead, BadMapping}
 use Rattle.refusal.specs.Checks.{Check, _when_, firstOf}
 use Rattle.refusal.specs.Told.{Told, gives, refuses, decided}
 use Rattle.refusal.specs.Numbers.{numberOf}
-use Rattle.opus_head.specs.declared.Head.{Head}
+use Rattle.head_fields.specs.declared.Head.{Head}
 use Rattle.opus_head.specs.declared.Verdict.{Verdict}
 use Rattle.opus_head.specs.declared.Verdict.the-variants.{Right, Refused}
 use Rattle.opus_head.specs.declared.HeadRead.{HeadRead}
 use Rattle.opus_head.specs.Fields.{signature, headOf}
-use Rattle.opus_head.specs.Right.{rightVersion, tableLength, rightMapping}
+use Rattle.head_fields.specs.Right.{rightVersion, tableLength, rightMapping}
 
 -- signature, version and length are right
 unfoldable pub isHead : Bytes → Bool

@@ -3,8 +3,8 @@ use mathlib.Core.Path.{_≡_}
 use mathlib.Core.Bool.{true}
 use Rattle.octets.specs.Octets.{Bytes, Octets}
 use Rattle.refusal.specs.Told.{gives}
-use Rattle.opus_head.specs.declared.Head.{Head}
-use Rattle.opus_head.specs.Right.{rightHead}
+use Rattle.head_fields.specs.declared.Head.{Head}
+use Rattle.head_fields.specs.Right.{rightHead}
 use Rattle.opus_head.specs.Reading.{readHead}
 
 -- a record that was read is one that the writer takes

@@ -68,8 +68,9 @@ fn read_streams(s: &[u8], streams: u64) -> Lengths
     with_first(samples, later)
 }
 
-// Of any packet.
-fn read_any(bytes: &[u8], streams: u64) -> PacketRead
+// The length in samples of an audio packet of so many streams. 13: the number of streams is not from 1 to 255. 15: one of
+// its Opus packets is illegal. 16: they differ in length.
+pub fn read_packet(bytes: &[u8], streams: u64) -> PacketRead
     ensures { λ r. ⌜ toldPacket r ≡ readPacket (now (bytes .entry)) streams ⌝ }
 {
     if streams == 0 {
@@ -95,9 +96,8 @@ fn is_single(bytes: &[u8]) -> bool
     (bytes.len() > 0) & ((bytes.len() < 1277) & (toc % 4 == 0))
 }
 
-// The length in samples of an audio packet of so many streams. 13: the number of streams is not from 1 to 255. 15: one of
-// its Opus packets is illegal. 16: they differ in length.
-pub fn read_packet(bytes: &[u8], streams: u64) -> PacketRead
+// The same as `read_packet`. A packet of one frame is told at once, in so little code that it can stand in its caller's loop.
+pub fn read_packet_quick(bytes: &[u8], streams: u64) -> PacketRead
     ensures { λ r. ⌜ toldPacket r ≡ readPacket (now (bytes .entry)) streams ⌝ }
 {
     if streams == 1 {
@@ -105,5 +105,5 @@ pub fn read_packet(bytes: &[u8], streams: u64) -> PacketRead
             return PacketRead::Samples(opus_frames::frame_samples(octets::byte_at(bytes, 0)));
         }
     }
-    read_any(bytes, streams)
+    read_packet(bytes, streams)
 }

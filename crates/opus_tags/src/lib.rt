@@ -63,7 +63,7 @@ fn fits_at(b: &[u8], at: usize) -> bool
     if b.len() - at < 4 {
         return false;
     }
-    octets::number32(b, at) as usize <= b.len() - at - 4
+    number_reader::number32(b, at) as usize <= b.len() - at - 4
 }
 
 // Where the text lies whose length stands at this place: a listing goes from the end of each comment to the next. 14: the
@@ -74,7 +74,7 @@ pub fn find_text(b: &[u8], at: usize) -> PartRead
     if !fits_at(b, at) {
         return PartRead::Refused(Refusal::BadTags);
     }
-    let size = octets::number32(b, at) as usize;
+    let size = number_reader::number32(b, at) as usize;
     PartRead::Found(Part {
         start: at + 4,
         size,
@@ -88,7 +88,7 @@ fn step(b: &[u8], at: usize, track: bool, album: bool) -> Walk
     if !fits_at(b, at) {
         return Walk::Wrong;
     }
-    let size = octets::number32(b, at) as usize;
+    let size = number_reader::number32(b, at) as usize;
     let start = at + 4;
     let next = start + size;
     let Gains::Seen(t, a) = judge(octets::part_of(b, start, size), track, album) else {
@@ -124,15 +124,15 @@ fn walk_by(b: &[u8], from: Walk, n: usize) -> Walk
 fn count_of(b: &[u8]) -> usize
     ensures { λ r. ⌜ r ≡ countOf (now (b .entry)) ⌝ }
 {
-    let vendor = octets::number32(b, 8) as usize;
-    octets::number32(b, 12 + vendor) as usize
+    let vendor = number_reader::number32(b, 8) as usize;
+    number_reader::number32(b, 12 + vendor) as usize
 }
 
 // The place where the length of the first comment stands, for a listing. It may lie past the end where the packet is wrong.
 pub fn first_comment(b: &[u8]) -> usize
     ensures { λ r. ⌜ r ≡ firstPlace (now (b .entry)) ⌝ }
 {
-    let size = octets::number32(b, 8) as usize;
+    let size = number_reader::number32(b, 8) as usize;
     16 + size
 }
 
@@ -146,7 +146,7 @@ fn begin(b: &[u8]) -> Walk
     if !fits_at(b, 8) {
         return Walk::Wrong;
     }
-    let vendor = octets::number32(b, 8) as usize;
+    let vendor = number_reader::number32(b, 8) as usize;
     if !utf8::is_utf8(octets::part_of(b, 12, vendor)) {
         return Walk::Wrong;
     }

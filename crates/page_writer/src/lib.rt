@@ -81,7 +81,7 @@ pub fn write_page(h: PageHeader, lacing: &[u8], body: &[u8], out: &mut [u8]) -> 
     if lacing.len() > 255 {
         return PageWritten::Refused(Refusal::UnfitFields);
     }
-    if ogg_page::lacing::sum_of(lacing) != body.len() {
+    if lacing::sum_of(lacing) != body.len() {
         return PageWritten::Refused(Refusal::UnfitFields);
     }
     if h.flags > 7 {

@@ -1,102 +1,17 @@
--- A reader as sixteen numbers, for callers that can hold numbers only. Any sixteen numbers stand for a reader: an unknown phase
--- is Ended, an unknown unfinished packet is dropped, an unknown position is a granule position, and a number that its field's
--- width cannot hold counts modulo that width. Assumes nothing.
-use Prim.Native.Nat.{ℕ, _%_}
+-- A reader in sixteen numbers: what opening part way and feeding answer, and the numbers at the end. Assumes nothing.
+use Prim.Native.Nat.{ℕ}
 use mathlib.Core.Path.{_≡_}
-use mathlib.Core.List.{List, [], _∷_}
-use lib.Dec.{eqb}
-use lib.ListN.{getD}
-use Rattle.octets.specs.Pick.{pick}
+use mathlib.Core.List.{List}
 use Rattle.octets.specs.Octets.{Bytes}
 use Rattle.refusal.specs.Numbers.{numberOf}
 use Rattle.refusal.specs.Told.{Told, gives, refuses, retold, numberIn}
-use Rattle.granule.specs.declared.Position.{Position}
-use Rattle.granule.specs.declared.Position.the-variants.{Unset, Joined, At}
-use Rattle.stream.specs.declared.Phase.{Phase}
-use Rattle.stream.specs.declared.Phase.the-variants.{First, Comment, Audio, Opened, Ended}
-use Rattle.stream.specs.declared.Pending.{Pending}
-use Rattle.stream.specs.declared.Pending.the-variants.{Nothing, Held, Dropped}
 use Rattle.stream.specs.declared.Counts.{Counts}
 use Rattle.stream.specs.Feed.{Reader, Taken, Fed}
-use Rattle.stream.specs.Feedings.{heldOf}
+use Rattle.state_numbers.specs.Numbers.{numbersOf, readerFrom}
 use Rattle.reader.specs.declared.StateOpened.{StateOpened}
 use Rattle.reader.specs.declared.StateOpened.the-variants.{Done, Refused as NotOpened}
 use Rattle.reader.specs.declared.StateFed.{StateFed}
 use Rattle.reader.specs.declared.StateFed.the-variants.{Accepted, Refused}
-
-abbrev pub phaseNumber : Phase → ℕ
-phaseNumber First = 0
-phaseNumber Comment = 1
-phaseNumber Audio = 2
-phaseNumber Opened = 3
-phaseNumber Ended = 4
-
-abbrev pub pendingNumber : Pending → ℕ
-pendingNumber Nothing = 0
-pendingNumber (Held n) = 1
-pendingNumber Dropped = 2
-
-abbrev pub positionNumber : Position → ℕ
-positionNumber Unset = 0
-positionNumber Joined = 1
-positionNumber (At g) = 2
-
-abbrev pub granuleIn : Position → ℕ
-granuleIn Unset = 0
-granuleIn Joined = 0
-granuleIn (At g) = g
-
--- the sixteen numbers: phase, unfinished packet, held bytes, position, granule, serial, sequence due, streams, pre-skip, samples
--- still to skip, and six zeros
-unfoldable pub numbersOf : Reader → List ℕ
-numbersOf r =
-    phaseNumber (r .core .phase) ∷ pendingNumber (r .core .pending) ∷ heldOf (r .core .pending) ∷ positionNumber (r .core .position)
-    ∷ granuleIn (r .core .position) ∷ r .core .serial ∷ r .core .next ∷ r .core .streams ∷ r .core .preskip ∷ r .tally .skip
-    ∷ 0 ∷ 0 ∷ 0 ∷ 0 ∷ 0 ∷ 0 ∷ []
-
--- ---- and back
-
-unfoldable pub phaseFrom : ℕ → Phase
-phaseFrom n = pick (eqb n 0) First (pick (eqb n 1) Comment (pick (eqb n 2) Audio (pick (eqb n 3) Opened Ended)))
-
-unfoldable pub pendingFrom : ℕ → ℕ → Pending
-pendingFrom n held = pick (eqb n 0) Nothing (pick (eqb n 1) (Held held) Dropped)
-
-unfoldable pub positionFrom : ℕ → ℕ → Position
-positionFrom n g = pick (eqb n 0) Unset (pick (eqb n 1) Joined (At g))
-
-unfoldable pub readerFrom : List ℕ → Reader
-readerFrom l = record {
-  core = record {
-    phase = phaseFrom (getD l 0 0);
-    pending = pendingFrom (getD l 1 0) (getD l 2 0);
-    position = positionFrom (getD l 3 0) (getD l 4 0);
-    serial = getD l 5 0 % 4294967296;
-    next = getD l 6 0 % 4294967296;
-    streams = getD l 7 0 % 256;
-    preskip = getD l 8 0 % 65536;
-  };
-  tally = record { skip = getD l 9 0 % 65536 };
-}
-
--- numbers that were made of a reader, and stand for it
-pub record StandFor (l : List ℕ) (r : Reader) : Type 0 where
-  pub numbers : l ≡ numbersOf r
-  pub back : readerFrom l ≡ r
-
-abbrev pub made : Phase → Pending → Position → ℕ → ℕ → ℕ → ℕ → ℕ → Reader
-made phase pending position serial next streams preskip skip = record {
-  core = record {
-    phase = phase;
-    pending = pending;
-    position = position;
-    serial = serial;
-    next = next;
-    streams = streams;
-    preskip = preskip;
-  };
-  tally = record { skip = skip };
-}
 
 -- ---- opening part way
 

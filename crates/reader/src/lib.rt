@@ -2,7 +2,6 @@
 ghost use Prim.Native.Nat.{ℕ};
 ghost use mathlib.Core.Path.{_≡_};
 ghost use mathlib.Core.List.{List};
-ghost use lib.ListN.{length};
 ghost use Rattle.octets.specs.Octets.{Bytes};
 ghost use Rattle.stream.specs.State.{isEnded};
 ghost use Rattle.ogg_crc.specs.Crc.{pageCrc};
@@ -12,19 +11,17 @@ ghost use Rattle.stream.specs.Readings.{readings};
 ghost use Rattle.stream.specs.Feed.{start as started, openPartWay, feed as feedBy, Fed as Outcome, FedIs, lentOf};
 ghost use Rattle.stream.specs.Feedings.{heldOf};
 ghost use Rattle.core_feed.specs.Answers.{toldCore};
+ghost use Rattle.state_numbers.specs.Numbers.{StandFor, readerFrom};
 ghost use Rattle.reader.specs.Answers.{knownAs, toldOpened, toldFed};
-ghost use Rattle.reader.specs.Numbers.{StandFor, readerFrom, StateOpenedIs, StateFedIs};
+ghost use Rattle.reader.specs.Numbers.{StateOpenedIs, StateFedIs};
 use core_feed::CoreFed;
+use core_start::CoreOpened;
 use granule::Position;
-use opus_head::Head;
+use head_fields::Head;
 use refusal::Refusal;
 use stream::Core;
 use stream::Counts;
-use stream::Pending;
-use stream::Phase;
 use stream::Tally;
-
-mod numbers;
 
 // A reader comes only from starting, opening and feeding.
 pub struct Reader {
@@ -48,15 +45,7 @@ pub fn start() -> Reader
     ensures { λ r. ⌜ knownAs r ≡ started ⌝ }
 {
     Reader {
-        core: Core {
-            phase: Phase::First,
-            pending: Pending::Nothing,
-            position: Position::Unset,
-            serial: 0,
-            next: 0,
-            streams: 0,
-            preskip: 0,
-        },
+        core: core_start::start_core(),
         tally: Tally { skip: 0 },
     }
 }
@@ -65,29 +54,17 @@ pub fn start() -> Reader
 pub fn open(head: Head) -> Opened
     ensures { λ r. ⌜ toldOpened r ≡ openPartWay head ⌝ }
 {
-    if !opus_head::right_head(head) {
-        return Opened::Refused(Refusal::UnfitFields);
+    match core_start::open_core(head) {
+        CoreOpened::At(core, tally) => Opened::At(Reader { core, tally }),
+        CoreOpened::Refused(why) => Opened::Refused(why),
     }
-    Opened::At(Reader {
-        core: Core {
-            phase: Phase::Opened,
-            pending: Pending::Nothing,
-            position: Position::Joined,
-            serial: 0,
-            next: 0,
-            streams: head.streams,
-            preskip: head.preskip,
-        },
-        tally: Tally { skip: 0 },
-    })
 }
 
 // The serial of the last page accepted, 0 before the first.
 pub fn serial(reader: Reader) -> u32
     ensures { λ r. ⌜ r ≡ reader .core .serial ⌝ }
 {
-    let core = reader.core;
-    core.serial
+    reader.core.serial
 }
 
 // Whether the last page accepted was marked end of stream.
@@ -140,9 +117,7 @@ pub fn feed(
 ) -> Fed
     ensures { λ r. ⌜ FedIs (feedBy (readings pageCrc) (knownAs reader) (lentOf (now (carry .entry)) (now (ends .entry)) (now (sizes .entry)) (now (kept .entry))) (now (page .entry))) (toldFed r) (now (carry .exit)) (now (ends .exit)) (now (sizes .exit)) (now (kept .exit)) ⌝ }
 {
-    let core = reader.core;
-    let tally = reader.tally;
-    sealed(core_feed::feed_core(core, tally, page, carry, ends, sizes, kept))
+    sealed(core_feed::feed_core(reader.core, reader.tally, page, carry, ends, sizes, kept))
 }
 
 // The same as `feed`, by lent tables: those of `crc_tables::table::tables` give the checksum, and others what they give. Whoever
@@ -158,9 +133,16 @@ pub fn feed_with(
 ) -> Fed
     ensures { λ r. ⌜ FedIs (feedBy (readings (pageSliced (entryIn (now (tables .entry))))) (knownAs reader) (lentOf (now (carry .entry)) (now (ends .entry)) (now (sizes .entry)) (now (kept .entry))) (now (page .entry))) (toldFed r) (now (carry .exit)) (now (ends .exit)) (now (sizes .exit)) (now (kept .exit)) ⌝ }
 {
-    let core = reader.core;
-    let tally = reader.tally;
-    sealed(core_feed::feed_core_with(tables, core, tally, page, carry, ends, sizes, kept))
+    sealed(core_feed::feed_core_with(
+        tables,
+        reader.core,
+        reader.tally,
+        page,
+        carry,
+        ends,
+        sizes,
+        kept,
+    ))
 }
 
 // ---- a reader as sixteen numbers
@@ -179,32 +161,32 @@ pub enum StateFed {
 pub fn start_state() -> [u64; 16]
     ensures { λ r. ⌜ StandFor r started ⌝ }
 {
-    numbers::numbers_of(start())
+    state_numbers::numbers_of(core_start::start_core(), Tally { skip: 0 })
 }
 
 // The same as `open`, into sixteen numbers. A refusal changes none.
 pub fn open_state(head: Head, state: &mut [u64; 16]) -> StateOpened
     ensures { λ r. ⌜ StateOpenedIs (openPartWay head) r (now (state .entry)) (now (state .exit)) ⌝ }
 {
-    match open(head) {
-        Opened::At(reader) => {
-            *state = numbers::numbers_of(reader);
+    match core_start::open_core(head) {
+        CoreOpened::At(core, tally) => {
+            *state = state_numbers::numbers_of(core, tally);
             StateOpened::Done
         }
-        Opened::Refused(why) => StateOpened::Refused(why),
+        CoreOpened::Refused(why) => StateOpened::Refused(why),
     }
 }
 
 // The numbers of the next reader; a refusal changes none.
-fn keep(fed: Fed, state: &mut [u64; 16]) -> StateFed
-    ensures { λ r. ⌜ ((f : Outcome) (carry : Bytes) (ends sizes kept : List ℕ) → FedIs f (toldFed fed) carry ends sizes kept → StateFedIs f r (now (state .entry)) (now (state .exit)) carry ends sizes kept) ⌝ }
+fn keep(fed: CoreFed, state: &mut [u64; 16]) -> StateFed
+    ensures { λ r. ⌜ ((f : Outcome) (carry : Bytes) (ends sizes kept : List ℕ) → FedIs f (toldCore fed) carry ends sizes kept → StateFedIs f r (now (state .entry)) (now (state .exit)) carry ends sizes kept) ⌝ }
 {
     match fed {
-        Fed::Accepted(next, counts) => {
-            *state = numbers::numbers_of(next);
+        CoreFed::Accepted(core, tally, counts) => {
+            *state = state_numbers::numbers_of(core, tally);
             StateFed::Accepted(counts)
         }
-        Fed::Refused(why) => StateFed::Refused(why),
+        CoreFed::Refused(why) => StateFed::Refused(why),
     }
 }
 
@@ -219,6 +201,10 @@ pub fn feed_state(
 ) -> StateFed
     ensures { λ r. ⌜ StateFedIs (feedBy (readings pageCrc) (readerFrom (now (state .entry))) (lentOf (now (carry .entry)) (now (ends .entry)) (now (sizes .entry)) (now (kept .entry))) (now (page .entry))) r (now (state .entry)) (now (state .exit)) (now (carry .exit)) (now (ends .exit)) (now (sizes .exit)) (now (kept .exit)) ⌝ }
 {
-    let reader = numbers::reader_from(state);
-    keep(feed(reader, page, carry, ends, sizes, kept), state)
+    let core = state_numbers::core_from(state);
+    let tally = state_numbers::tally_from(state);
+    keep(
+        core_feed::feed_core(core, tally, page, carry, ends, sizes, kept),
+        state,
+    )
 }

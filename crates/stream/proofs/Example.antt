@@ -18,13 +18,13 @@ use Rattle.refusal.proofs.Checks.{no-refusal, passed}
 use Rattle.ogg_crc.specs.Crc.{pageCrc}
 use Rattle.ogg_page.specs.declared.PageHeader.{PageHeader}
 use Rattle.ogg_page.specs.Page.{hasCapture, headerOf, checksumOf}
-use Rattle.ogg_page.specs.Lacing.{endedFrom, unfinishedFrom, cutFrom}
+use Rattle.lacing.specs.Lacing.{endedFrom, unfinishedFrom, cutFrom}
 use Rattle.ogg_page.specs.Reading.{isOnePage, readChecks, readPage}
 use Rattle.page_writer.specs.Writing.{pageSize, writeTold}
 use Rattle.page_writer.specs.Statements.{Fit, ReadsAs}
 use Rattle.page_writer.proofs.RoundTrip.{reads-back}
 use Rattle.opus_head.specs.Fields.{streamsOf, coupledOf, indicesOf, places, headOf as fieldsOf}
-use Rattle.opus_head.specs.Right.{allowedChannels, rightIndices, rightStreams, rightMapping}
+use Rattle.head_fields.specs.Right.{allowedChannels, rightIndices, rightStreams, rightMapping}
 use Rattle.opus_head.specs.Reading.{isHead}
 use Rattle.utf8.specs.Characters.{utf8From, utf8}
 use Rattle.opus_tags.specs.Layout.{fitsAt, allFit, textsFrom, placeAfter, isLaidOut, tagsOf}

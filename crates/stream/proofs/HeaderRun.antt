@@ -11,7 +11,7 @@ use borrow.Author.Tests.{not-false}
 use lib.ListN.{length}
 use Rattle.octets.specs.Pick.{pick}
 use Rattle.octets.specs.Octets.{Bytes, total}
-use Rattle.opus_head.specs.declared.Head.{Head}
+use Rattle.head_fields.specs.declared.Head.{Head}
 use Rattle.granule.specs.declared.Position.the-variants.{Unset}
 use Rattle.granule.specs.Samples.{tally, keptOf, skippedOf, trimmedOf}
 use Rattle.stream.specs.declared.Phase.{Phase}

@@ -14,7 +14,7 @@ use Rattle.refusal.specs.declared.Refusal.{Refusal}
 use Rattle.refusal.specs.Told.{gives}
 use Rattle.ogg_crc.specs.Crc.{pageCrc}
 use Rattle.page_writer.specs.Writing.{startOf}
-use Rattle.opus_head.specs.declared.Head.{Head}
+use Rattle.head_fields.specs.declared.Head.{Head}
 use Rattle.opus_head.specs.Fields.{streamsOf, headOf as fieldsOf}
 use Rattle.opus_frames.specs.Frames.{configSamples, frameSamples, coded, codedTimes, paddingFrom}
 use Rattle.opus_frames.specs.Packet.{countedShape, shapeOf, parse}

@@ -15,11 +15,11 @@ use Rattle.refusal.specs.declared.Refusal.the-variants.{IllegalPacket, MixedLen
 use Rattle.refusal.specs.Checks.{firstOf}
 use Rattle.refusal.specs.Told.{Told, gives, refuses, decided}
 use Rattle.ogg_page.specs.Page.{bodyOf, countOf}
-use Rattle.ogg_page.specs.Lacing.{cutFrom}
+use Rattle.lacing.specs.Lacing.{cutFrom}
 use Rattle.ogg_page.specs.Reading.{readPage}
-use Rattle.opus_head.specs.declared.Head.{Head}
+use Rattle.head_fields.specs.declared.Head.{Head}
 use Rattle.opus_head.specs.Fields.{headOf as fieldsOf}
-use Rattle.opus_head.specs.Right.{rightHead, rightMapping}
+use Rattle.head_fields.specs.Right.{rightHead, rightMapping}
 use Rattle.opus_head.specs.Reading.{isHead, readHead}
 use Rattle.opus_head.proofs.ReadRight.{read-is-right}
 use Rattle.opus_tags.specs.Reading.{readTags}

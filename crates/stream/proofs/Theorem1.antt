@@ -8,7 +8,7 @@ use native.Mathlib.Nat.{zero-add}
 use native.Mathlib.Omega.{arith}
 use lib.ListN.{length}
 use Rattle.octets.specs.Octets.{Bytes, total}
-use Rattle.opus_head.specs.declared.Head.{Head}
+use Rattle.head_fields.specs.declared.Head.{Head}
 use Rattle.granule.specs.declared.Position.the-variants.{Unset}
 use Rattle.granule.specs.Samples.{tally, keptOf, skippedOf, trimmedOf}
 use Rattle.stream.specs.declared.Phase.the-variants.{First, Comment}

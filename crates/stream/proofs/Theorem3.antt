@@ -6,7 +6,7 @@ use mathlib.Core.List.{List, [], _∷_, map}
 use lib.ListN.{take, drop}
 use Rattle.octets.specs.Pick.{pick}
 use Rattle.octets.specs.Octets.{Bytes}
-use Rattle.opus_head.specs.declared.Head.{Head}
+use Rattle.head_fields.specs.declared.Head.{Head}
 use Rattle.granule.specs.declared.Position.{Position}
 use Rattle.granule.specs.declared.Position.the-variants.{Unset}
 use Rattle.stream.specs.Page.{Page, pageOf, continued, last, granuleOf, completes}

@@ -10,7 +10,7 @@ use lib.Dec.{ltb}
 use Prim.Native.Nat.{suc}
 use Rattle.octets.specs.Pick.{pick}
 use Rattle.octets.specs.Octets.{Bytes, total}
-use Rattle.opus_head.specs.declared.Head.{Head}
+use Rattle.head_fields.specs.declared.Head.{Head}
 use Rattle.granule.specs.declared.Position.{Position}
 use Rattle.granule.specs.declared.Position.the-variants.{Unset, At}
 use Rattle.granule.specs.Samples.{tally}

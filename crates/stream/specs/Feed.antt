@@ -14,8 +14,8 @@ use Rattle.refusal.specs.declared.Refusal.the-variants.{ShortRoom, UnfitFields}
 use Rattle.refusal.specs.Checks.{Check, _when_, firstOf}
 use Rattle.refusal.specs.Told.{Told, gives, refuses, decided}
 use Rattle.refusal.specs.Numbers.{numberOf}
-use Rattle.opus_head.specs.declared.Head.{Head}
-use Rattle.opus_head.specs.Right.{rightHead}
+use Rattle.head_fields.specs.declared.Head.{Head}
+use Rattle.head_fields.specs.Right.{rightHead}
 use Rattle.granule.specs.declared.Position.the-variants.{Unset, Joined}
 use Rattle.granule.specs.Samples.{keptOf, skippedOf, trimmedOf}
 use Rattle.granule.specs.Judging.{hole}

@@ -9,7 +9,7 @@ use Rattle.octets.specs.Pick.{pick}
 use Rattle.octets.specs.Octets.{Bytes}
 use Rattle.ogg_page.specs.declared.PageHeader.{PageHeader}
 use Rattle.ogg_page.specs.Page.{headerOf, lacingOf, bodyOf}
-use Rattle.ogg_page.specs.Lacing.{cutFrom, unfinishedFrom}
+use Rattle.lacing.specs.Lacing.{cutFrom, unfinishedFrom}
 
 pub record Page : Type 0 where
   pub header : PageHeader

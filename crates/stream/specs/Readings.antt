@@ -6,9 +6,9 @@ use lib.Dec.{eqb}
 use Rattle.octets.specs.Octets.{Bytes}
 use Rattle.ogg_page.specs.Page.{checksumOf}
 use Rattle.ogg_page.specs.Reading.{isOnePage}
-use Rattle.opus_head.specs.declared.Head.{Head}
+use Rattle.head_fields.specs.declared.Head.{Head}
 use Rattle.opus_head.specs.Fields.{headOf}
-use Rattle.opus_head.specs.Right.{rightMapping}
+use Rattle.head_fields.specs.Right.{rightMapping}
 use Rattle.opus_head.specs.Reading.{isHead}
 use Rattle.opus_tags.specs.Right.{isTags}
 use Rattle.opus_packet.specs.Streams.{lengthsOf, isIllegal, isMixed, firstLength}

@@ -7,7 +7,7 @@ use denote.Ref.{now}
 use lib.Dec.{eqb}
 use lib.ListN.{length}
 use Rattle.octets.proofs.Tests.{equals, unequal}
-use Rattle.opus_head.specs.Right.{tableLength}
+use Rattle.head_fields.specs.Right.{tableLength}
 use Rattle.opus_head.proofs.Places.{no-signature, other-version, short-head, length-decides}
 use Rattle.opus_head.proofs.is_head.Statement.{statement}
 use Rattle.opus_head.proofs.is_head.Tie as tie

@@ -5,7 +5,7 @@ use denote.Ref.{now}
 use Rattle.refusal.specs.declared.Refusal.the-variants.{BadHead, BadMapping}
 use Rattle.refusal.specs.Told.{gives}
 use Rattle.octets.proofs.Tests.{failed, held}
-use Rattle.opus_head.specs.Right.{rightMapping}
+use Rattle.head_fields.specs.Right.{rightMapping}
 use Rattle.opus_head.proofs.Answers.{no-head, wrong-mapping, right-header, refused-is, read-is}
 use Rattle.opus_head.proofs.read_head.Statement.{statement}
 use Rattle.opus_head.proofs.read_head.Tie as tie

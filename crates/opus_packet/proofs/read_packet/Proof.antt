@@ -2,23 +2,32 @@
 use mathlib.Core.Path.{_≡_, sym, ap, _∙_}
 use borrow.Author.Needs.{needs}
 use denote.Ref.{now}
-use Rattle.refusal.specs.Told.{gives}
-use Rattle.opus_frames.specs.Frames.{frameSamples}
+use Rattle.opus_packet.specs.declared.Lengths.{Lengths}
 use Rattle.opus_packet.specs.Streams.{readPacket}
-use Rattle.opus_packet.proofs.Single.{reads-single}
+use Rattle.opus_packet.specs.Code.{toldLengths}
+use Rattle.opus_packet.proofs.Verdict.{verdict, no-streams, too-many-streams, by-streams}
 use Rattle.opus_packet.proofs.read_packet.Statement.{statement}
 use Rattle.opus_packet.proofs.read_packet.Tie as tie
 
 returns : tie.Need-returns
-returns c =
-    let test = c .before .before in
-    let one = test .before .before in
-    let a = one .before .before .args in
-    let told = reads-single (now (a .bytes)) (sym (test .before .is-single .ensures) ∙ test .if2 .taken) in
-    ap gives (c .frame-samples .ensures ∙ ap frameSamples (c .before .byte-at .ensures))
-    ∙ sym told ∙ ap (readPacket (now (a .bytes))) (sym (one .if1 .taken))
+returns c = let a = c .before .before .args in sym (no-streams (now (a .bytes)) (a .streams) (c .if1 .taken))
+
+returns-2 : tie.Need-returns-2
+returns-2 c = let a = c .before .before .before .args in sym (too-many-streams (now (a .bytes)) (a .streams) (c .before .if1 .left) (c .if2 .taken))
+
+-- the lengths as they were told
+told : (c : tie.After-read-streams) {q : Lengths} → c .read-streams .result ≡ q
+    → verdict (toldLengths q) ≡ readPacket (now (c .before .before .before .before .args .bytes)) (c .before .before .before .before .args .streams)
+told c e =
+    let a = c .before .before .before .before .args in
+    ap (λ (x : Lengths). verdict (toldLengths x)) (sym e) ∙ ap verdict (c .read-streams .ensures)
+    ∙ sym (by-streams (now (a .bytes)) (a .streams) (c .before .before .if1 .left) (c .before .if2 .left))
 
 pub read-packet-spec : {M : Type 1} → statement M
 read-packet-spec =
     tie.close
-    (tie.spec (λ c κs. search needs) (λ c κs. search needs) (λ c κs. search needs) returns (λ c κs. search needs) (λ c. search needs))
+    (tie.spec
+    returns returns-2 (λ c κs. search needs) (λ c. search needs) (λ c. search needs) (λ c. search needs)
+    (λ c. told (c .before .before) (c .enum-told .given .1))
+    (λ c. told (c .before .before) (c .enum-told2 .given .1))
+    (λ c. told (c .before .before .before) (c .before .lengths .given .1)))

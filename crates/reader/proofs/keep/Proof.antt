@@ -1,7 +1,7 @@
 -- `reader::keep` meets its contract. Assumes nothing.
 use mathlib.Core.Path.{_≡_}
 use borrow.Author.Needs.{needs}
-use Rattle.reader.specs.declared.Fed.the-variants.{Accepted, Refused}
+use Rattle.core_feed.specs.declared.CoreFed.the-variants.{Accepted, Refused}
 use Rattle.reader.proofs.States.{state-accepted, state-refused}
 use Rattle.reader.proofs.keep.Statement.{statement}
 use Rattle.reader.proofs.keep.Tie as tie
@@ -9,10 +9,11 @@ use Rattle.reader.proofs.keep.Tie as tie
 returns : tie.Need-returns
 returns c f carry ends sizes kept is =
     let arm = c .before .before in
-    let next = arm .fed .given .0 .0 in
-    let counts = arm .fed .given .0 .1 .0 in
-    let q : arm .before .before .args .fed ≡ Accepted next counts = cc in
-    state-accepted next counts (rw q at is) (c .numbers-of .ensures)
+    let core = arm .fed .given .0 .0 in
+    let tally = arm .fed .given .0 .1 .0 in
+    let counts = arm .fed .given .0 .1 .1 .0 in
+    let q : arm .before .before .args .fed ≡ Accepted core tally counts = cc in
+    state-accepted core tally counts (rw q at is) (c .numbers-of .ensures)
 
 returns-2 : tie.Need-returns-2
 returns-2 c f carry ends sizes kept is =

@@ -27,29 +27,29 @@ add-bytes c = omega (arith, fits (c .before .before .before .loop .inv) (c .wide
 add-end : tie.Need-add-end Inv-loop μ-loop
 add-end c = omega (arith, fits (c .before .before .before .before .loop .inv) (c .before .wide .ensures .0) (omega arith))
 
-part-read-packet-start : tie.Need-part-read-packet-start Inv-loop μ-loop
-part-read-packet-start c = omega (arith, fits (c .before .before .before .before .loop .inv) (c .before .wide .ensures .0) (omega arith))
+part-read-packet-quick-start : tie.Need-part-read-packet-quick-start Inv-loop μ-loop
+part-read-packet-quick-start c = omega (arith, fits (c .before .before .before .before .loop .inv) (c .before .wide .ensures .0) (omega arith))
 
-part-read-packet-end : tie.Need-part-read-packet-end Inv-loop μ-loop
-part-read-packet-end c = omega (arith, fits (c .before .before .before .before .loop .inv) (c .before .wide .ensures .0) (omega arith))
+part-read-packet-quick-end : tie.Need-part-read-packet-quick-end Inv-loop μ-loop
+part-read-packet-quick-end c = omega (arith, fits (c .before .before .before .before .loop .inv) (c .before .wide .ensures .0) (omega arith))
 
 returns : tie.Need-returns Inv-loop μ-loop
 returns c =
     let read = c .before .before .before in
     let at = read .before .before .before .before .before .before .loop in
     refused (at .inv) (read .before .before .before .wide .ensures .0) (omega arith) (read .before .before .if1 .taken) _
-    (read-as (read .read-packet .ensures) (c .before .why .given .1))
+    (read-as (read .read-packet-quick .ensures) (c .before .why .given .1))
 
 add-sum : tie.Need-add-sum Inv-loop μ-loop
 add-sum c =
-    let few : c .before .s .given .0 .0 ≤ 5760 = few-samples _ _ _ (read-as (c .before .before .before .read-packet .ensures) (c .before .s .given .1)) in
+    let few : c .before .s .given .0 .0 ≤ 5760 = few-samples _ _ _ (read-as (c .before .before .before .read-packet-quick .ensures) (c .before .s .given .1)) in
     omega arith
 
 loop-again : tie.Need-loop-again Inv-loop μ-loop
 loop-again c =
     let at = c .before .before .before .before .before .before .before .before .before .loop in
     ends (at .inv) (c .before .before .before .before .before .before .wide .ensures .0) (omega arith) (c .before .before .before .before .before .if1 .taken)
-    (read-as (c .before .before .before .read-packet .ensures) (c .before .s .given .1)) (omega arith)
+    (read-as (c .before .before .before .read-packet-quick .ensures) (c .before .s .given .1)) (omega arith)
 
 loop-again-2 : tie.Need-loop-again-2 Inv-loop μ-loop
 loop-again-2 c = goes-on (c .before .before .before .before .loop .inv) (c .before .wide .ensures .0) (omega arith) (c .if1 .left)
@@ -64,6 +64,6 @@ measure-spec =
     tie.close
     (tie.spec Inv-loop μ-loop
     loop-holds (λ c. omega arith) (λ c κs. tt) add-bytes (λ c. omega arith) add-end (λ c. omega arith)
-    part-read-packet-start part-read-packet-end (λ c κs. tt) (λ c. search needs) (λ c. search needs) returns (λ c. search needs)
+    part-read-packet-quick-start part-read-packet-quick-end (λ c κs. tt) (λ c. search needs) (λ c. search needs) returns (λ c. search needs)
     (λ c. omega arith) (λ c. omega arith) (λ c. omega arith) add-sum (λ c. omega arith) loop-again
     (λ c. omega arith) loop-again-2 (λ c. search needs) returns-2)

@@ -1,0 +1,70 @@
+-- When the fields of an identification header are right (RFC 7845, 5.1 and 5.1.1; document 01, refusals 12, 13 and 23). The
+-- reader, the writer and opening part way share this. Assumes nothing.
+use Prim.Native.Nat.{ℕ, _+_, _-_}
+use mathlib.Core.Bool.{Bool, true, false, _&&_, _||_}
+use mathlib.Core.List.{[], _∷_}
+use lib.Dec.{ltb, leb, eqb}
+use lib.ListN.{take, drop}
+use Rattle.octets.specs.Pick.{pick}
+use Rattle.octets.specs.Octets.{Bytes, begins}
+use Rattle.head_fields.specs.declared.Head.{Head}
+
+-- the mapping of family 0: one channel, or two of one coupled stream
+abbrev pub plainIndices : Bytes
+plainIndices = 0 ∷ 1 ∷ []
+
+-- the table behind the family, which family 0 does not have: the number of streams, of coupled ones, and an index for each
+-- channel
+abbrev pub hasTable : ℕ → Bool
+hasTable family = pick (eqb family 0) false true
+
+-- which versions there are
+abbrev pub rightVersion : ℕ → Bool
+rightVersion v = eqb v 1
+
+-- how long the table is
+abbrev pub tableLength : ℕ → ℕ → ℕ
+tableLength family channels = pick (hasTable family) (2 + channels) 0
+
+-- how many channels a family allows: families 0, 1 and 255 are known
+abbrev pub mostChannels : ℕ → ℕ
+mostChannels family = pick (eqb family 0) 2 (pick (eqb family 1) 8 (pick (eqb family 255) 255 0))
+
+unfoldable pub allowedChannels : ℕ → ℕ → Bool
+allowedChannels family channels = leb 1 channels && leb channels (mostChannels family)
+
+-- which places of the mapping are used: one for each channel
+abbrev pub usedPlaces : Head → Bytes
+usedPlaces h = take (h .channels) (h .mapping)
+
+abbrev pub unusedPlaces : Head → Bytes
+unusedPlaces h = drop (h .channels) (h .mapping)
+
+-- a stream's channel, or 255 for silence
+abbrev pub rightIndex : ℕ → ℕ → Bool
+rightIndex n i = ltb i n || eqb i 255
+
+unfoldable pub rightIndices : ℕ → Bytes → Bool
+rightIndices n [] = true
+rightIndices n (i ∷ s) = rightIndex n i && rightIndices n s
+
+unfoldable pub allZero : Bytes → Bool
+allZero [] = true
+allZero (i ∷ s) = eqb i 0 && allZero s
+
+unfoldable pub rightStreams : Head → Bool
+rightStreams h = leb 1 (h .streams) && (leb (h .coupled) (h .streams) && leb (h .coupled + h .streams) 255)
+
+-- family 0 has no table, so it has one stream, and two channels are coupled
+unfoldable pub rightPlain : Head → Bool
+rightPlain h =
+    pick (hasTable (h .family)) true
+    (eqb (h .streams) 1 && (eqb (h .coupled) (h .channels - 1) && begins (take (h .channels) plainIndices) (h .mapping)))
+
+-- the channel mapping is right (13)
+unfoldable pub rightMapping : Head → Bool
+rightMapping h = allowedChannels (h .family) (h .channels) && (rightStreams h && rightIndices (h .coupled + h .streams) (usedPlaces h))
+
+-- fields that a reading could have given (23)
+unfoldable pub rightHead : Head → Bool
+rightHead h = rightVersion (h .version) && (rightMapping h && (rightPlain h && allZero (unusedPlaces h)))
