@@ -1,0 +1,169 @@
+#!/usr/bin/env python3
+"""Holds `list` and `tags` to ffprobe, to opusinfo and to the listing beside this file, on Ogg Opus files.
+
+usage: tests/streams/compare.py [--without-ffprobe] NAME=DIRECTORY ..
+Takes every Ogg Opus file below each directory, told by its first bytes. Prints one line for each name, and each
+difference with the rule that explains it. A difference that no rule explains is printed with DIFFERS and makes the
+status 1. LIST and TAGS are the programs, target/bin/list and target/bin/tags if not set.
+"""
+import argparse
+import itertools
+import pathlib
+import re
+import sys
+
+from comments import tags_lines
+from listing import listing, read
+from programs import LIST, TAGS, ffprobe, need, opusinfo, run_on
+
+
+class Findings:
+    """What was compared, and the differences, those that a rule explains apart."""
+
+    def __init__(self, directory):
+        self.directory = directory
+        self.files = self.packets = self.explained = self.faults = 0
+        self.lines = []
+
+    def fault(self, path, text):
+        self.faults += 1
+        self.lines.append(f'  DIFFERS {path.relative_to(self.directory)}: {text}')
+
+    def explain(self, path, text):
+        self.explained += 1
+        self.lines.append(f'  explained {path.relative_to(self.directory)}: {text}')
+
+
+def is_opus(path):
+    if path.is_symlink() or not path.is_file():
+        return False
+    with open(path, 'rb') as file:
+        start = file.read(36)
+    return start[:4] == b'OggS' and start[28:] == b'OpusHead'
+
+
+def first_difference(ours, theirs):
+    """The first place in which two lists differ."""
+    pairs = itertools.zip_longest(ours, theirs)
+    return next(f'number {n}: {a}, not {b}' for n, (a, b) in enumerate(pairs) if a != b)
+
+
+def probed(reader):
+    """What ffprobe shows of the packets of a stream, and why where that is not what the listing has.
+
+    Times are whole samples, as Opus in Ogg has the time base 1/48000. ffprobe tells where a packet starts, and counts
+    from the first sample that is played: `end - dur - pre_skip`. The first packet has the pre-skip as samples to skip;
+    its duration stays whole. A packet that is trimmed at the end has that as samples to discard, and its duration is
+    what is left of it, or 1 where nothing is left. Two rules of libavformat (oggdec.c, oggparseopus.c) give a packet
+    another start than that:
+    - the first packet on a page starts where the page before it ended, also where there is a hole between the two;
+    - on the page that is marked last every other packet starts where what is left of the one before it ends, so that
+      it goes on without a hole before the page, and without what was trimmed.
+    """
+    shown, reasons = [], []
+    pre_skip = reader.head.pre_skip
+    last_page = reader.pages - 1 if reader.ended else None
+    before = None
+    for entry in reader.entries:
+        start = plain = entry.end - entry.dur - pre_skip
+        if before and before.page != entry.page:
+            start = before.end - pre_skip
+        elif before and entry.page == last_page:
+            start = shown[-1][0] + shown[-1][1]
+        if start != plain:
+            reasons.append(f'packet {len(shown)} starts {plain - start} samples earlier by ffprobe, which has no '
+                           + ('samples trimmed before it' if shown[-1][3] else 'hole before its page'))
+        shown.append((start, max(entry.dur - entry.trimmed, 1), 0 if before else pre_skip, entry.trimmed))
+        before = entry
+    return shown, reasons
+
+
+def compare_ffprobe(path, reader, findings):
+    shown, reasons = probed(reader)
+    told = ffprobe(path)
+    if told != shown:
+        findings.fault(path, 'by ffprobe packet ' + first_difference(told, shown))
+    elif reasons:
+        findings.explain(path, f'{reasons[0]}; packets so: {len(reasons)}')
+
+
+def played(reader):
+    """The playback length that opusinfo prints: from the first sample that is played to the last granule position,
+    holes counted, in milliseconds, rounded down. It reckons in floating point, which may give one millisecond less
+    where the length is a whole number of them; this does the same."""
+    first = reader.entries[0]
+    seconds = max(reader.position - (first.end - first.dur) - reader.head.pre_skip, 0) / 48000
+    minutes = int(seconds) // 60
+    rest = int(seconds - minutes * 60)
+    return f'{minutes}m:{rest:02d}.{int((seconds - minutes * 60 - rest) * 1000):03d}s'
+
+
+def commented(comment):
+    """A comment as opusinfo shows it; it tells a picture's form in place of its text."""
+    name, value = comment.split(b'=', 1)
+    if name.upper() == b'METADATA_BLOCK_PICTURE':
+        return b'\t' + name + b'=<picture>\n'
+    return b'\t' + comment + b'\n'
+
+
+def compare_opusinfo(path, reader, findings):
+    told, warnings = opusinfo(path)
+    told = re.sub(rb'(?m)^(\tMETADATA_BLOCK_PICTURE=)\d+\|.*\|<\d+ bytes of image data>$', rb'\1<picture>', told)
+    tags = reader.tags
+    texts = b'Encoded with ' + tags.vendor + b'\n'
+    if tags.comments:
+        texts += b'User comments section follows...\n' + b''.join(map(commented, tags.comments))
+    if not told.startswith(texts + b'Opus stream 1:\n'):
+        findings.fault(path, f'opusinfo tells other comments than {texts!r}')
+    durs = [entry.dur / 48 for entry in reader.entries]
+    for line in (f'Pre-skip: {reader.head.pre_skip}', f'Playback length: {played(reader)}',
+                 f'Packet duration: {max(durs):6.1f}ms (max), {sum(durs) / len(durs):6.1f}ms (avg), {min(durs):6.1f}ms (min)'):
+        if f'\n\t{line}\n'.encode() not in told:
+            findings.fault(path, f'opusinfo does not tell {line!r}')
+    for warning in warnings:
+        behind = re.fullmatch(r'WARNING: Sample count behind granule \((\d+)<(\d+)\) in stream 1', warning)
+        if behind and int(behind[2]) - int(behind[1]) == reader.hole:
+            findings.explain(path, f'opusinfo warns of a sample count {reader.hole} behind; `list` tells hole={reader.hole}')
+        else:
+            findings.fault(path, f'opusinfo warns, no rule explains it: {warning}')
+
+
+def compare(path, with_ffprobe, findings):
+    reader, last = read(path.read_bytes())
+    findings.files += 1
+    findings.packets += len(reader.entries)
+    if not last.startswith('total '):
+        findings.fault(path, last)
+        return
+    for program, wanted in (LIST, listing(reader, last)), (TAGS, tags_lines(reader, last)):
+        told = run_on(program, path)
+        if told != wanted:
+            findings.fault(path, f'{program}: line ' + first_difference(told.split(b'\n'), wanted.split(b'\n')))
+    if with_ffprobe:
+        compare_ffprobe(path, reader, findings)
+    compare_opusinfo(path, reader, findings)
+
+
+def main():
+    parser = argparse.ArgumentParser()
+    parser.add_argument('--without-ffprobe', action='store_true')
+    parser.add_argument('groups', nargs='+', metavar='NAME=DIRECTORY')
+    options = parser.parse_args()
+    need(LIST, TAGS, 'opusinfo', *([] if options.without_ffprobe else ['ffprobe']))
+    faults = 0
+    for group in options.groups:
+        name, directory = group.split('=', 1)
+        directory = pathlib.Path(directory)
+        findings = Findings(directory)
+        for path in sorted(filter(is_opus, directory.rglob('*'))):
+            compare(path, not options.without_ffprobe, findings)
+        if not findings.files:
+            findings.fault(directory, 'no Ogg Opus file')
+        print(f'{name}: {findings.files} files, {findings.packets} packets, {findings.explained} differences explained, '
+              f'{findings.faults} not explained', *findings.lines, sep='\n', flush=True)
+        faults += findings.faults
+    sys.exit(faults > 0)
+
+
+if __name__ == '__main__':
+    main()
