@@ -1,12 +1,13 @@
 #!/usr/bin/env python3
 """Holds `list` and `tags` to ffprobe, to opusinfo and to the listing beside this file, on Ogg Opus files.
 
-usage: tests/streams/compare.py [--without-ffprobe] NAME=DIRECTORY ..
+usage: tests/streams/compare.py [--without-ffprobe | --refused] NAME=DIRECTORY ..
 Takes every Ogg Opus file below each directory, told by its first bytes. Prints one line for each name, and each
 difference with the rule that explains it. A difference that no rule explains is printed with DIFFERS and makes the
-status 1. LIST and TAGS are the programs, target/bin/list and target/bin/tags if not set.
+status 1. With --refused every stream is one that must be refused. LIST and TAGS are the programs, target/bin/list and target/bin/tags if not set.
 """
 import argparse
+import collections
 import itertools
 import pathlib
 import re
@@ -49,30 +50,32 @@ def first_difference(ours, theirs):
 
 
 def probed(reader):
-    """What ffprobe shows of the packets of a stream, and why where that is not what the listing has.
+    """What ffprobe shows of the packets of a stream, and how often and why that is not what the listing has.
 
     Times are whole samples, as Opus in Ogg has the time base 1/48000. ffprobe tells where a packet starts, and counts
     from the first sample that is played: `end - dur - pre_skip`. The first packet has the pre-skip as samples to skip;
     its duration stays whole. A packet that is trimmed at the end has that as samples to discard, and its duration is
-    what is left of it, or 1 where nothing is left. Two rules of libavformat (oggdec.c, oggparseopus.c) give a packet
+    what is left of it, or 1 where nothing is left. Three rules of libavformat (oggdec.c, oggparseopus.c) give a packet
     another start than that:
     - the first packet on a page starts where the page before it ended, also where there is a hole between the two;
     - on the page that is marked last every other packet starts where what is left of the one before it ends, so that
-      it goes on without a hole before the page, and without what was trimmed.
+      it goes on without a hole before the page, and without what was trimmed;
+    - where the first page of audio is marked last, its first packet starts at position 0.
     """
-    shown, reasons = [], []
+    shown, reasons = [], collections.Counter()
     pre_skip = reader.head.pre_skip
     last_page = reader.pages - 1 if reader.ended else None
     before = None
     for entry in reader.entries:
         start = plain = entry.end - entry.dur - pre_skip
         if before and before.page != entry.page:
-            start = before.end - pre_skip
+            start, why = before.end - pre_skip, 'it leaves out the hole before a page'
         elif before and entry.page == last_page:
-            start = shown[-1][0] + shown[-1][1]
+            start, why = shown[-1][0] + shown[-1][1], 'on the last page it goes on from what is left of the packet before'
+        elif entry.page == last_page:
+            start, why = -pre_skip, 'it takes a first page that is the last to start at 0'
         if start != plain:
-            reasons.append(f'packet {len(shown)} starts {plain - start} samples earlier by ffprobe, which has no '
-                           + ('samples trimmed before it' if shown[-1][3] else 'hole before its page'))
+            reasons[why] += 1
         shown.append((start, max(entry.dur - entry.trimmed, 1), 0 if before else pre_skip, entry.trimmed))
         before = entry
     return shown, reasons
@@ -83,8 +86,9 @@ def compare_ffprobe(path, reader, findings):
     told = ffprobe(path)
     if told != shown:
         findings.fault(path, 'by ffprobe packet ' + first_difference(told, shown))
-    elif reasons:
-        findings.explain(path, f'{reasons[0]}; packets so: {len(reasons)}')
+        return
+    for why, times in reasons.items():
+        findings.explain(path, f'ffprobe has other starts of {times} packets: {why}')
 
 
 def played(reader):
@@ -106,6 +110,18 @@ def commented(comment):
     return b'\t' + comment + b'\n'
 
 
+def warned(reader):
+    """The warnings that opusinfo gives of a stream that the listing accepts: at each page whose granule position is ahead
+    of the samples decoded so far, as it is behind a hole, and at the end where more than the last packet is trimmed."""
+    first, last = reader.entries[0], reader.entries[-1]
+    start = first.end - first.dur
+    warnings = [f'WARNING: Sample count behind granule ({decoded}<{granule - start}) in stream 1'
+                for granule, decoded in reader.marks if decoded < granule - start]
+    if reader.trimmed > last.dur:
+        warnings.append('WARNING: stream 1 has more than one packet of end trimming')
+    return warnings
+
+
 def compare_opusinfo(path, reader, findings):
     told, warnings = opusinfo(path)
     told = re.sub(rb'(?m)^(\tMETADATA_BLOCK_PICTURE=)\d+\|.*\|<\d+ bytes of image data>$', rb'\1<picture>', told)
@@ -120,26 +136,27 @@ def compare_opusinfo(path, reader, findings):
                  f'Packet duration: {max(durs):6.1f}ms (max), {sum(durs) / len(durs):6.1f}ms (avg), {min(durs):6.1f}ms (min)'):
         if f'\n\t{line}\n'.encode() not in told:
             findings.fault(path, f'opusinfo does not tell {line!r}')
-    for warning in warnings:
-        behind = re.fullmatch(r'WARNING: Sample count behind granule \((\d+)<(\d+)\) in stream 1', warning)
-        if behind and int(behind[2]) - int(behind[1]) == reader.hole:
-            findings.explain(path, f'opusinfo warns of a sample count {reader.hole} behind; `list` tells hole={reader.hole}')
-        else:
-            findings.fault(path, f'opusinfo warns, no rule explains it: {warning}')
+    if warnings != warned(reader):
+        findings.fault(path, 'opusinfo warns, number ' + first_difference(warnings, warned(reader)))
+    elif warnings:
+        findings.explain(path, f'opusinfo warns {len(warnings)} times where `list` has hole={reader.hole} '
+                               f'trimmed={reader.trimmed}')
 
 
-def compare(path, with_ffprobe, findings):
+def compare(path, options, findings):
     reader, last = read(path.read_bytes())
     findings.files += 1
     findings.packets += len(reader.entries)
-    if not last.startswith('total '):
+    if last.startswith('refused ') != options.refused:
         findings.fault(path, last)
         return
     for program, wanted in (LIST, listing(reader, last)), (TAGS, tags_lines(reader, last)):
         told = run_on(program, path)
         if told != wanted:
             findings.fault(path, f'{program}: line ' + first_difference(told.split(b'\n'), wanted.split(b'\n')))
-    if with_ffprobe:
+    if options.refused:
+        return
+    if not options.without_ffprobe:
         compare_ffprobe(path, reader, findings)
     compare_opusinfo(path, reader, findings)
 
@@ -147,6 +164,7 @@ def compare(path, with_ffprobe, findings):
 def main():
     parser = argparse.ArgumentParser()
     parser.add_argument('--without-ffprobe', action='store_true')
+    parser.add_argument('--refused', action='store_true')
     parser.add_argument('groups', nargs='+', metavar='NAME=DIRECTORY')
     options = parser.parse_args()
     need(LIST, TAGS, 'opusinfo', *([] if options.without_ffprobe else ['ffprobe']))
@@ -156,7 +174,7 @@ def main():
         directory = pathlib.Path(directory)
         findings = Findings(directory)
         for path in sorted(filter(is_opus, directory.rglob('*'))):
-            compare(path, not options.without_ffprobe, findings)
+            compare(path, options, findings)
         if not findings.files:
             findings.fault(directory, 'no Ogg Opus file')
         print(f'{name}: {findings.files} files, {findings.packets} packets, {findings.explained} differences explained, '

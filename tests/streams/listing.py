@@ -29,6 +29,7 @@ class Reader:
         self.ended = False
         self.pages = self.decoded = self.kept = self.skipped = self.trimmed = self.hole = 0
         self.entries = []
+        self.marks = []                 # (granule position, samples decoded so far) of the pages that complete a packet
 
     def feed(self, data):
         refuse(2, self.ended)
@@ -79,6 +80,7 @@ class Reader:
             self.skipped += skipped
             self.kept += kept
         self.position = granule
+        self.marks.append((granule, self.decoded))
 
 
 def read(data):

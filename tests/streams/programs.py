@@ -35,7 +35,7 @@ def run_on(program, path):
 
 def ffprobe(path):
     """(start, duration, skipped at the start, cut at the end) of each packet, in samples."""
-    told = json.loads(run('ffprobe', '-v', 'error', '-of', 'json', '-show_entries',
+    told = json.loads(run('ffprobe', '-v', 'error', '-of', 'json', '-select_streams', 'a', '-show_entries',
                           'stream=codec_name,time_base:packet=pts,duration'
                           ':packet_side_data=skip_samples,discard_padding', path).stdout)
     assert [tuple(stream.values()) for stream in told['streams']] == [('opus', '1/48000')], path
