@@ -1,12 +1,20 @@
 """Opus packets (RFC 6716, 3 and Appendix B) and the two headers of Ogg Opus (RFC 7845, 5)."""
+import struct
 from typing import NamedTuple
 
 from pages import refuse
 
 
 class Head(NamedTuple):
+    version: int
+    channels: int
     pre_skip: int
+    rate: int
+    gain: int
+    family: int
     streams: int
+    coupled: int
+    mapping: bytes
 
 
 class Tags(NamedTuple):
@@ -77,13 +85,13 @@ def packet_samples(data, streams):
 
 def read_head(packet):
     refuse(12, len(packet) < 19 or packet[:9] != b'OpusHead\1')
-    channels, family = packet[9], packet[18]
+    version, channels, pre_skip, rate, gain, family = struct.unpack('<BBHIhB', packet[8:19])
     refuse(12, len(packet) != (21 + channels if family else 19))
     refuse(13, not 1 <= channels <= {0: 2, 1: 8, 255: 255}.get(family, 0))
-    streams, coupled = packet[19:21] if family else (1, channels - 1)
+    streams, coupled, *mapping = packet[19:] if family else (1, channels - 1, *range(channels))
     refuse(13, streams < 1 or coupled > streams or streams + coupled > 255)
-    refuse(13, any(streams + coupled <= index < 255 for index in packet[21:]))
-    return Head(int.from_bytes(packet[10:12], 'little'), streams)
+    refuse(13, any(streams + coupled <= index < 255 for index in mapping))
+    return Head(version, channels, pre_skip, rate, gain, family, streams, coupled, bytes(mapping))
 
 
 def read_tags(packet):
