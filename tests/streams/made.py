@@ -6,8 +6,8 @@ from pages import CONTINUED, FIRST, LAST, NO_GRANULE, Page, lacing_of, write_pag
 SERIAL = 0x31415926
 
 
-def head(pre_skip=312):
-    return b'OpusHead' + struct.pack('<BBHIhB', 1, 2, pre_skip, 48000, 0, 0)
+def head(channels=2, family=0, table=b''):
+    return b'OpusHead' + struct.pack('<BBHIhB', 1, channels, 312, 48000, 0, family) + table
 
 
 def tags(*comments):
@@ -51,3 +51,14 @@ def long_stream(packets):
         count = min(255, packets - at)
         pages.append((0, 120 * (at + count), b'\x01' * count, b'\xe0' * count))
     return stream(pages)
+
+
+def wrong_streams():
+    """(name, bytes) of streams that are refused by numbers that damage to the short stream does not lead to."""
+    first, second = whole(FIRST, 0, head()), whole(0, 0, tags())
+    yield 'comment packet of 61,441 bytes', stream([first, whole(0, 0, tags().ljust(61441, b'\0'))])
+    yield 'two packets on the page of the comment header', stream([first, whole(0, 0, tags(), b'x')])
+    yield 'nine channels in family 1', stream([whole(FIRST, 0, head(9, 1, bytes([9, 0, *range(9)])))])
+    yield 'a packet of 960 and 480 samples', stream([whole(FIRST, 0, head(2, 1, bytes([2, 0, 0, 1]))), second,
+                                                     whole(LAST, 960, b'\x08\x01a' + b'\x00b')])
+    yield 'the only page of audio ends below the pre-skip', stream([first, second, whole(LAST, 311, b'\x08a')])
