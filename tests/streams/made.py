@@ -61,4 +61,5 @@ def wrong_streams():
     yield 'nine channels in family 1', stream([whole(FIRST, 0, head(9, 1, bytes([9, 0, *range(9)])))])
     yield 'a packet of 960 and 480 samples', stream([whole(FIRST, 0, head(2, 1, bytes([2, 0, 0, 1]))), second,
                                                      whole(LAST, 960, b'\x08\x01a' + b'\x00b')])
+    yield 'an empty packet', stream([first, second, whole(LAST, 960, b'\x08a', b'')])
     yield 'the only page of audio ends below the pre-skip', stream([first, second, whole(LAST, 311, b'\x08a')])
