@@ -4,7 +4,8 @@
 usage: tests/streams/compare.py [--without-ffprobe | --refused] NAME=DIRECTORY ..
 Takes every Ogg Opus file below each directory, told by its first bytes. Prints one line for each name, and each
 difference with the rule that explains it. A difference that no rule explains is printed with DIFFERS and makes the
-status 1. With --refused every stream is one that must be refused. LIST and TAGS are the programs, target/bin/list and target/bin/tags if not set.
+status 1. With --refused every stream is one that must be refused. LIST and TAGS are the programs, target/bin/list and
+target/bin/tags if not set.
 """
 import argparse
 import collections
@@ -65,13 +66,14 @@ def probed(reader):
     shown, reasons = [], collections.Counter()
     pre_skip = reader.head.pre_skip
     last_page = reader.pages - 1 if reader.ended else None
-    before = None
+    before = why = None
     for entry in reader.entries:
         start = plain = entry.end - entry.dur - pre_skip
         if before and before.page != entry.page:
             start, why = before.end - pre_skip, 'it leaves out the hole before a page'
         elif before and entry.page == last_page:
-            start, why = shown[-1][0] + shown[-1][1], 'on the last page it goes on from what is left of the packet before'
+            start = shown[-1][0] + shown[-1][1]
+            why = 'it leaves out what was trimmed before them' if before.trimmed else why
         elif entry.page == last_page:
             start, why = -pre_skip, 'it takes a first page that is the last to start at 0'
         if start != plain:
@@ -88,7 +90,7 @@ def compare_ffprobe(path, reader, findings):
         findings.fault(path, 'by ffprobe packet ' + first_difference(told, shown))
         return
     for why, times in reasons.items():
-        findings.explain(path, f'ffprobe has other starts of {times} packets: {why}')
+        findings.explain(path, f'ffprobe has earlier starts of {times} packets: {why}')
 
 
 def played(reader):
@@ -104,10 +106,25 @@ def played(reader):
 
 def commented(comment):
     """A comment as opusinfo shows it; it tells a picture's form in place of its text."""
-    name, value = comment.split(b'=', 1)
+    name = comment.split(b'=')[0]
     if name.upper() == b'METADATA_BLOCK_PICTURE':
         return b'\t' + name + b'=<picture>\n'
     return b'\t' + comment + b'\n'
+
+
+def told_lines(reader):
+    """Lines that opusinfo prints of the identification header and of the packets."""
+    head, durs = reader.head, [entry.dur / 48 for entry in reader.entries]
+    lines = [f'Pre-skip: {head.pre_skip}', f'Playback gain: {head.gain / 256:g} dB', f'Channels: {head.channels}']
+    if head.rate:
+        lines.append(f'Original sample rate: {head.rate} Hz')
+    if head.streams > 1:
+        lines.append(f'Streams: {head.streams}, Coupled: {head.coupled}')
+    if head.family:
+        lines.append(f'Channel Mapping Family: {head.family} Map: [{", ".join(map(str, head.mapping))}]')
+    average = sum(durs) / len(durs)
+    lines.append(f'Packet duration: {max(durs):6.1f}ms (max), {average:6.1f}ms (avg), {min(durs):6.1f}ms (min)')
+    return lines + [f'Playback length: {played(reader)}']
 
 
 def warned(reader):
@@ -131,9 +148,7 @@ def compare_opusinfo(path, reader, findings):
         texts += b'User comments section follows...\n' + b''.join(map(commented, tags.comments))
     if not told.startswith(texts + b'Opus stream 1:\n'):
         findings.fault(path, f'opusinfo tells other comments than {texts!r}')
-    durs = [entry.dur / 48 for entry in reader.entries]
-    for line in (f'Pre-skip: {reader.head.pre_skip}', f'Playback length: {played(reader)}',
-                 f'Packet duration: {max(durs):6.1f}ms (max), {sum(durs) / len(durs):6.1f}ms (avg), {min(durs):6.1f}ms (min)'):
+    for line in told_lines(reader):
         if f'\n\t{line}\n'.encode() not in told:
             findings.fault(path, f'opusinfo does not tell {line!r}')
     if warnings != warned(reader):
