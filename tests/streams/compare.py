@@ -89,6 +89,8 @@ def compare_ffprobe(path, reader, findings):
     if told != shown:
         findings.fault(path, 'by ffprobe packet ' + first_difference(told, shown))
         return
+    if reader.kept != max(sum(entry.dur for entry in reader.entries) - sum(skip + cut for _, _, skip, cut in told), 0):
+        findings.fault(path, f'by ffprobe other than {reader.kept} samples are played')
     for why, times in reasons.items():
         findings.explain(path, f'ffprobe has earlier starts of {times} packets: {why}')
 
@@ -97,8 +99,7 @@ def played(reader):
     """The playback length that opusinfo prints: from the first sample that is played to the last granule position,
     holes counted, in milliseconds, rounded down. It reckons in floating point, which may give one millisecond less
     where the length is a whole number of them; this does the same."""
-    first = reader.entries[0]
-    seconds = max(reader.position - (first.end - first.dur) - reader.head.pre_skip, 0) / 48000
+    seconds = (reader.kept + reader.hole) / 48000
     minutes = int(seconds) // 60
     rest = int(seconds - minutes * 60)
     return f'{minutes}m:{rest:02d}.{int((seconds - minutes * 60 - rest) * 1000):03d}s'
