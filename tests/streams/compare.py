@@ -40,8 +40,8 @@ def is_opus(path):
     if path.is_symlink() or not path.is_file():
         return False
     with open(path, 'rb') as file:
-        start = file.read(36)
-    return start[:4] == b'OggS' and start[28:] == b'OpusHead'
+        start = file.read(27 + 255 + 8)
+    return start[:4] == b'OggS' and len(start) > 27 and start[27 + start[26]:].startswith(b'OpusHead')
 
 
 def first_difference(ours, theirs):
@@ -153,7 +153,7 @@ def compare_opusinfo(path, reader, findings):
         if f'\n\t{line}\n'.encode() not in told:
             findings.fault(path, f'opusinfo does not tell {line!r}')
     if warnings != warned(reader):
-        findings.fault(path, 'opusinfo warns, number ' + first_difference(warnings, warned(reader)))
+        findings.fault(path, 'opusinfo gives other warnings, ' + first_difference(warnings, warned(reader)))
     elif warnings:
         findings.explain(path, f'opusinfo warns {len(warnings)} times where `list` has hole={reader.hole} '
                                f'trimmed={reader.trimmed}')
