@@ -61,7 +61,8 @@ def probed(reader):
     - the first packet on a page starts where the page before it ended, also where there is a hole between the two;
     - on the page that is marked last every other packet starts where what is left of the one before it ends, so that
       it goes on without a hole before the page, and without what was trimmed;
-    - where the first page of audio is marked last, its first packet starts at position 0.
+    - where the first page of audio is marked last, its first packet starts at position 0 (RFC 7845, 4.5, has the start
+      that its granule position gives).
     """
     shown, reasons = [], collections.Counter()
     pre_skip = reader.head.pre_skip
