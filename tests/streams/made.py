@@ -1,0 +1,65 @@
+"""Streams made by hand for the tests, with packets of few bytes and pages of many forms."""
+import struct
+
+from pages import CONTINUED, FIRST, LAST, NO_GRANULE, Page, lacing_of, write_page
+
+SERIAL = 0x31415926
+
+
+def head(channels=2, family=0, table=b''):
+    return b'OpusHead' + struct.pack('<BBHIhB', 1, channels, 312, 48000, 0, family) + table
+
+
+def tags(*comments):
+    texts = (b'made', *comments)
+    parts = [struct.pack('<I', len(text)) + text for text in texts]
+    return b'OpusTags' + parts[0] + struct.pack('<I', len(comments)) + b''.join(parts[1:])
+
+
+def stream(pages, serial=SERIAL):
+    """The bytes of pages, given as (flags, granule, lacing, body), numbered from 0."""
+    return b''.join(write_page(Page(flags, granule, serial, number, lacing, body))
+                    for number, (flags, granule, lacing, body) in enumerate(pages))
+
+
+def whole(flags, granule, *packets):
+    """A page of whole packets."""
+    return flags, granule, b''.join(map(lacing_of, packets)), b''.join(packets)
+
+
+def short_stream(serial=SERIAL):
+    """Under 2 KB: a comment packet over two pages, an audio packet over three, an empty page, a hole, and a trim."""
+    comment = tags(b'TITLE=drip', b'LONG=' + bytes(b'abcdefghij' * 27))
+    long = bytes([0xf8]) + bytes(range(256)) * 2 + bytes(27)            # 540 bytes, 960 samples
+    two, silk, many = b'\x01ab', b'\x08abc', b'\xe3\x05' + bytes(10)    # 960, 960 and 600 samples
+    return stream([
+        whole(FIRST, 0, head()),
+        (0, NO_GRANULE, b'\xff', comment[:255]),
+        whole(CONTINUED, 0, comment[255:]),
+        whole(0, 2520, two, silk, many),
+        (0, NO_GRANULE, b'', b''),
+        (0, 3480, b'\x03\xff', two + long[:255]),
+        (CONTINUED, NO_GRANULE, b'\xff', long[255:510]),
+        (CONTINUED, 4440 + 100, b'\x1e', long[510:]),                   # 100 samples missing before this page
+        whole(LAST, 4540 + 700, two, silk)], serial)
+
+
+def long_stream(packets):
+    """Packets of 2.5 ms and one byte, 255 on a page."""
+    pages = [whole(FIRST, 0, head()), whole(0, 0, tags())]
+    for at in range(0, packets, 255):
+        count = min(255, packets - at)
+        pages.append((0, 120 * (at + count), b'\x01' * count, b'\xe0' * count))
+    return stream(pages)
+
+
+def wrong_streams():
+    """(name, bytes) of streams that are refused by numbers that damage to the short stream does not lead to."""
+    first, second = whole(FIRST, 0, head()), whole(0, 0, tags())
+    yield 'comment packet of 61,441 bytes', stream([first, whole(0, 0, tags().ljust(61441, b'\0'))])
+    yield 'two packets on the page of the comment header', stream([first, whole(0, 0, tags(), b'x')])
+    yield 'nine channels in family 1', stream([whole(FIRST, 0, head(9, 1, bytes([9, 0, *range(9)])))])
+    yield 'a packet of 960 and 480 samples', stream([whole(FIRST, 0, head(2, 1, bytes([2, 0, 0, 1]))), second,
+                                                     whole(LAST, 960, b'\x08\x01a' + b'\x00b')])
+    yield 'an empty packet', stream([first, second, whole(LAST, 960, b'\x08a', b'')])
+    yield 'the only page of audio ends below the pre-skip', stream([first, second, whole(LAST, 311, b'\x08a')])

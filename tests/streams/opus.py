@@ -1,0 +1,128 @@
+"""Opus packets (RFC 6716, 3 and Appendix B) and the two headers of Ogg Opus (RFC 7845, 5)."""
+import struct
+from typing import NamedTuple
+
+from pages import refuse
+
+
+class Head(NamedTuple):
+    version: int
+    channels: int
+    pre_skip: int
+    rate: int
+    gain: int
+    family: int
+    streams: int
+    coupled: int
+    mapping: bytes
+
+
+class Tags(NamedTuple):
+    vendor: bytes
+    comments: list
+
+
+def frame_samples(toc):
+    """Samples at 48 kHz of one frame, by the configuration in a packet's first byte."""
+    config = toc >> 3
+    if config < 12:
+        return (480, 960, 1920, 2880)[config % 4]
+    if config < 16:
+        return (480, 960)[config % 2]
+    return (120, 240, 480, 960)[config % 4]
+
+
+class Packet:
+    """Reads one Opus packet from the start of some bytes; 15 if it is illegal."""
+
+    def __init__(self, data, delimited):
+        self.data, self.at = data, 0
+        toc = self.byte()
+        frames, variable, padding = (1, 2, 2, 0)[toc & 3], toc & 3 == 2, 0
+        if toc & 3 == 3:
+            count = self.byte()
+            frames, variable = count & 0x3f, bool(count & 0x80)
+            padding = self.padding() if count & 0x40 else 0
+        self.samples = frames * frame_samples(toc)
+        refuse(15, frames == 0 or self.samples > 5760)
+        sizes = [self.coded() for _ in range(frames - 1)] if variable else []
+        if delimited:
+            size = self.coded()
+        else:
+            room = len(data) - self.at - padding - sum(sizes)
+            refuse(15, not variable and room % frames)
+            size = room if variable else room // frames
+            refuse(15, not 0 <= size <= 1275)
+        self.end = self.at + padding + sum(sizes) + (size if variable else size * frames)
+        refuse(15, self.end > len(data))
+
+    def byte(self):
+        refuse(15, self.at >= len(self.data))
+        self.at += 1
+        return self.data[self.at - 1]
+
+    def coded(self):
+        first = self.byte()
+        return first if first < 252 else first + 4 * self.byte()
+
+    def padding(self):
+        total = 0
+        while (value := self.byte()) == 255:
+            total += 254
+        return total + value
+
+
+def packet_samples(data, streams):
+    """Samples of an audio packet of some streams; all but the last are self-delimited."""
+    lengths = set()
+    for left in reversed(range(streams)):
+        packet = Packet(data, left > 0)
+        lengths.add(packet.samples)
+        data = data[packet.end:]
+    refuse(16, len(lengths) > 1)
+    return lengths.pop()
+
+
+def read_head(packet):
+    refuse(12, len(packet) < 19 or packet[:9] != b'OpusHead\1')
+    version, channels, pre_skip, rate, gain, family = struct.unpack('<BBHIhB', packet[8:19])
+    refuse(12, len(packet) != (21 + channels if family else 19))
+    refuse(13, not 1 <= channels <= {0: 2, 1: 8, 255: 255}.get(family, 0))
+    streams, coupled, *mapping = packet[19:] if family else (1, channels - 1, *range(channels))
+    refuse(13, streams < 1 or coupled > streams or streams + coupled > 255)
+    refuse(13, any(streams + coupled <= index < 255 for index in mapping))
+    return Head(version, channels, pre_skip, rate, gain, family, streams, coupled, bytes(mapping))
+
+
+def read_tags(packet):
+    refuse(14, packet[:8] != b'OpusTags')
+    at = 8
+
+    def number():
+        nonlocal at
+        refuse(14, at + 4 > len(packet))
+        at += 4
+        return int.from_bytes(packet[at - 4:at], 'little')
+
+    def text():
+        nonlocal at
+        size = number()
+        refuse(14, at + size > len(packet))
+        at += size
+        refuse(14, not is_utf8(packet[at - size:at]))
+        return packet[at - size:at]
+
+    vendor = text()
+    comments = [text() for _ in range(number())]
+    names = [comment.split(b'=')[0].upper() for comment in comments if b'=' in comment]
+    refuse(14, any(not 0x20 <= byte <= 0x7d for name in names for byte in name))
+    refuse(14, names.count(b'R128_TRACK_GAIN') > 1 or names.count(b'R128_ALBUM_GAIN') > 1)
+    return Tags(vendor, comments)
+
+
+def is_utf8(text):
+    try:
+        text.decode('utf-8')
+    except UnicodeDecodeError:
+        return False
+    return True
