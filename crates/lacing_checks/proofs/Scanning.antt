@@ -1,13 +1,14 @@
 -- 9 and the rest on lacing values: what a turn of `scan_from` keeps, and what a scan says. Assumes nothing.
-use Prim.Native.Nat.{ℕ, _+_, _<_, _≤_}
-use mathlib.Core.Path.{_≡_, refl, _∙_}
+use Prim.Native.Nat.{ℕ, zero, suc, _+_, _<_, _≤_}
+use mathlib.Core.Path.{_≡_, refl, sym, _∙_}
 use mathlib.Core.Bool.{Bool, true, false, _||_}
 use mathlib.Core.List.{List, [], _∷_}
 use native.Mathlib.Omega.{arith}
-use borrow.Author.Tests.{lt-ltb, le-ltb}
+use borrow.Author.Tests.{lt-ltb, le-ltb, ltb-true, ltb-false}
 use lib.Dec.{ltb}
+use lib.ListN.{length, getD}
 use Rattle.octets.specs.Pick.{pick}
-use Rattle.octets.specs.Octets.{Bytes}
+use Rattle.octets.specs.Octets.{Bytes, total}
 use Rattle.lacing.specs.Lacing.{endedFrom, unfinishedFrom}
 use Rattle.stream.specs.Packets.{packetMax, tooLong, anyLong, longFrom, afterFirst, isLong}
 use Rattle.stream.specs.declared.Pending.{Pending}
@@ -59,6 +60,20 @@ ends-short l n v h m = rw (long-ends l n v (lt-ltb v 255 h), lt-ltb v 255 h, le-
 pub scan-end : (n : ℕ) → n ≤ packetMax → Rest n ≡ scanOf n []
 unfolding longFrom endedFrom unfinishedFrom anyLong
 scan-end n h = rw (le-ltb packetMax n h)
+
+-- the last value ends a packet, and the sum is within the bound: no packet is too long, and none goes on
+pub scan-quick : (l : Bytes) (n i : ℕ) → length l ≡ suc i → getD l i 0 < 255 → n + total l ≤ packetMax → scanOf n l ≡ Rest 0
+unfolding total
+scan-quick [] n i e h m = absurd (omega arith)
+scan-quick (v ∷ []) n zero e h m = ends-short [] n v h (omega arith) ∙ sym (scan-end 0 (omega arith))
+scan-quick (v ∷ []) n (suc i) e h m = absurd (omega arith)
+scan-quick (v ∷ w ∷ l) n zero e h m = absurd (omega arith)
+scan-quick (v ∷ w ∷ l) n (suc i) e h m =
+    by (ltb v 255) refl (scan-quick (w ∷ l) 0 i (omega arith) h (omega arith)) (scan-quick (w ∷ l) (n + v) i (omega arith) h (omega arith))
+  where
+    by : (b : Bool) → ltb v 255 ≡ b → scanOf 0 (w ∷ l) ≡ Rest 0 → scanOf (n + v) (w ∷ l) ≡ Rest 0 → scanOf n (v ∷ w ∷ l) ≡ Rest 0
+    by true t p q = ends-short (w ∷ l) n v (ltb-true v 255 t) (omega arith) ∙ p
+    by false t p q = scan-goes-on (w ∷ l) n v (ltb-false v 255 t) ∙ q
 
 -- the first value that ends a packet
 pub after-goes-on : (l : Bytes) (v : ℕ) → 255 ≤ v → afterFirst (v ∷ l) ≡ afterFirst l

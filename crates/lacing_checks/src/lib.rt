@@ -1,10 +1,12 @@
 // 9, and the shape that 10 asks of a header page, by the lacing values of a page.
 ghost use mathlib.Core.Path.{_≡_};
+ghost use mathlib.Core.Bool.{true};
 ghost use Prim.Native.Nat.{_≤_};
 ghost use lib.ListN.{length, drop};
 ghost use Rattle.octets.specs.Octets.{Bytes};
 ghost use Rattle.stream.specs.Packets.{afterFirst, isLong};
 ghost use Rattle.stream.specs.Feed.{carriedIn};
+ghost use Rattle.lacing_checks.specs.declared.Scan.the-variants.{Rest};
 ghost use Rattle.lacing_checks.specs.Scan.{scanOf, scanBy};
 ghost use Rattle.lacing_checks.specs.Shape.{shapeOf};
 use stream::Pending;
@@ -66,12 +68,39 @@ fn after_first(lacing: &[u8]) -> usize
     i
 }
 
+// Whether no packet of these values is too long and none goes on, told quickly: by their sum and the last of them.
+fn is_quick(lacing: &[u8]) -> bool
+    ensures { λ r. ⌜ (r ≡ true → scanOf 0 (now (lacing .entry)) ≡ Rest 0) ⌝ }
+{
+    let n = lacing.len();
+    if n == 0 {
+        return false;
+    }
+    if n > 255 {
+        return false;
+    }
+    if lacing[n - 1] == 255 {
+        return false;
+    }
+    lacing::sum_of(lacing) <= PACKET_MAX
+}
+
+// The packets of a page that continues none.
+fn scan_new(lacing: &[u8]) -> Scan
+    ensures { λ r. ⌜ r ≡ scanOf 0 (now (lacing .entry)) ⌝ }
+{
+    if is_quick(lacing) {
+        return Scan::Rest(0);
+    }
+    scan_from(lacing, 0, 0)
+}
+
 // The page's packets against 9, by what is pending. A dropped packet is not measured.
 pub fn scan_page(pending: Pending, lacing: &[u8]) -> Scan
     ensures { λ r. ⌜ r ≡ scanBy pending (now (lacing .entry)) ⌝ }
 {
     match pending {
-        Pending::Nothing => scan_from(lacing, 0, 0),
+        Pending::Nothing => scan_new(lacing),
         Pending::Held(n) => scan_from(lacing, 0, n),
         Pending::Dropped => {
             let from = after_first(lacing);
