@@ -1,0 +1,35 @@
+-- Parts that fit and parts that do not, by orders; and a line made in a buffer of its own. Assumes nothing.
+use mathlib.Core.Path.{_≡_, refl, sym, ap, _∙_}
+use mathlib.Core.List.{_++_}
+use Prim.Native.Nat.{ℕ, _+_, _≤_, _<_}
+use native.Mathlib.Nat.{le-refl}
+use native.Mathlib.Omega.{arith}
+use borrow.Author.Tests.{le-leb, lt-ltb, le-ltb}
+use lib.ListN.{length, take}
+use lib.Seq.{take-length, take-paste}
+use Rattle.octets.specs.Octets.{Bytes, copied}
+use Rattle.octets.proofs.Copying.{copied-fits, length-copied}
+use Rattle.lines.specs.Writing.{placeBehind, Put, Laid}
+use Rattle.lines.proofs.Laying.{put-all, put-none}
+
+pub put-laid : {d e : Bytes} {at r : ℕ} {s : Bytes} → at + length s ≤ length d → Laid d at s r e → Put d at s r e
+put-laid {d} {e} {at} {r} {s} room x = put-all (le-ltb (length d) (at + length s) room) x
+
+pub put-nothing : {d : Bytes} {at : ℕ} {s : Bytes} → length d < at + length s → Put d at s at d
+put-nothing {d} {at} {s} short = put-none (lt-ltb (length d) (at + length s) short)
+
+-- what a call put, where it fits
+pub laid-put : {d e : Bytes} {at r : ℕ} {s : Bytes} → at + length s ≤ length d → Put d at s r e → Laid d at s r e
+unfolding placeBehind
+laid-put {d} {e} {at} {r} {s} room x =
+    record { place = x .place ∙ rw (le-leb (at + length s) (length d) room); output = x .output }
+
+pub length-laid : {d e : Bytes} {at r : ℕ} {s : Bytes} → Laid d at s r e → length e ≡ length d
+length-laid {d} {e} {at} {r} {s} x = ap length (x .output) ∙ length-copied d at s
+
+-- a text laid at the front of a buffer, taken out again
+pub front : {d e : Bytes} {n : ℕ} {s : Bytes} → Laid d 0 s n e → length s ≤ length d → take n e ≡ s
+front {d} {e} {n} {s} x room =
+    let inside : 0 + length s ≤ length d = omega arith in
+    rw (x .place, x .output, copied-fits d 0 s inside)
+    (take-paste d 0 s (length s) (omega arith) (le-refl (length s)) ∙ take-length s)
