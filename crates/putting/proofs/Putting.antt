@@ -33,3 +33,11 @@ front {d} {e} {n} {s} x room =
     let inside : 0 + length s ≤ length d = omega arith in
     rw (x .place, x .output, copied-fits d 0 s inside)
     (take-paste d 0 s (length s) (omega arith) (le-refl (length s)) ∙ take-length s)
+
+-- a text made at the front of a buffer z, and put as a part p of that
+pub put-made : {d e f z p s : Bytes} {at n r : ℕ} → Laid z 0 s n e → length s ≤ length z → p ≡ take n e → Put d at p r f → Put d at s r f
+put-made x room same y = rw (same ∙ front x room) at y
+
+-- a text known in other words
+pub put-known : {d e s t : Bytes} {at r : ℕ} → s ≡ t → Put d at s r e → Put d at t r e
+put-known same x = rw same at x
