@@ -10,7 +10,7 @@ use lib.Seq.{take-length, take-paste}
 use Rattle.octets.specs.Octets.{Bytes, copied}
 use Rattle.octets.proofs.Copying.{copied-fits, length-copied}
 use Rattle.lines.specs.Writing.{placeBehind, Put, Laid}
-use Rattle.lines.proofs.Laying.{put-all, put-none}
+use Rattle.lines.proofs.Laying.{put-all, put-none, laid-next}
 
 pub put-laid : {d e : Bytes} {at r : ℕ} {s : Bytes} → at + length s ≤ length d → Laid d at s r e → Put d at s r e
 put-laid {d} {e} {at} {r} {s} room x = put-all (le-ltb (length d) (at + length s) room) x
@@ -41,3 +41,10 @@ put-made x room same y = rw (same ∙ front x room) at y
 -- a text known in other words
 pub put-known : {d e s t : Bytes} {at r : ℕ} → s ≡ t → Put d at s r e → Put d at t r e
 put-known same x = rw same at x
+
+-- a part that a call put behind a part that is laid
+pub laid-then : {d e f s t : Bytes} {at a b : ℕ} → Laid d at s a e → a + length t ≤ length d → Put e a t b f → Laid d at (s ++ t) b f
+laid-then x room y = laid-next x (laid-put (omega (arith, length-laid x)) y) room
+
+pub laid-known : {d e s t : Bytes} {at r : ℕ} → s ≡ t → Laid d at s r e → Laid d at t r e
+laid-known same x = rw same at x
