@@ -1,10 +1,10 @@
--- `tags::list_comments` is safe and ends: the output keeps its length. Assumes nothing.
+-- `tags::listing::list_comments` is safe and ends: the output keeps its length. Assumes nothing.
 use mathlib.Core.Path.{_≡_}
 use Prim.Native.Nat.{_-_}
 use borrow.Author.Needs.{needs}
 use lib.ListN.{length}
-use Rattle.tags.proofs.list_comments.Statement.{statement}
-use Rattle.tags.proofs.list_comments.Tie as tie
+use Rattle.tags.proofs.listing.list_comments.Statement.{statement}
+use Rattle.tags.proofs.listing.list_comments.Tie as tie
 
 abbrev Inv-loop : tie.InvT-loop
 Inv-loop n packet out₀ l₀ i₀ out l i = length out ≡ length out₀

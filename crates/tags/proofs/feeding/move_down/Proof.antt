@@ -1,11 +1,11 @@
--- `tags::move_down` is safe and ends: no byte goes to a place behind its own. Assumes nothing.
+-- `tags::feeding::move_down` is safe and ends: no byte goes to a place behind its own. Assumes nothing.
 use mathlib.Core.Path.{_≡_}
 use Prim.Native.Nat.{_-_, _≤_}
 use native.Mathlib.Omega.{arith}
 use borrow.Author.Needs.{needs}
 use lib.ListN.{length, length-set}
-use Rattle.tags.proofs.move_down.Statement.{statement}
-use Rattle.tags.proofs.move_down.Tie as tie
+use Rattle.tags.proofs.feeding.move_down.Statement.{statement}
+use Rattle.tags.proofs.feeding.move_down.Tie as tie
 
 abbrev Inv-loop : tie.InvT-loop
 Inv-loop buffer₀ start end last from₀ to₀ buffer from to = (to ≤ from) × (length buffer ≡ length buffer₀) × (last ≤ length buffer₀)
