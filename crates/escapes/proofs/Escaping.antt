@@ -12,7 +12,6 @@ use lib.Seq.{drop-cons}
 use Rattle.octets.specs.Octets.{Bytes}
 use Rattle.utf8.specs.declared.Character.{Character}
 use Rattle.utf8.specs.Characters.{characterOf, characterAt}
-use Rattle.escapes.specs.Hidden.{isHidden}
 use Rattle.escapes.specs.Escape.{backslash, hexDigit, escapeOf, imageOf, sizeShown, shownLength, bytesShown, isShown, escapedFrom}
 
 -- ---- one byte

@@ -1,11 +1,11 @@
 -- An escaped text can drive nothing. Assumes nothing.
-use mathlib.Core.Path.{_≡_, refl, sym, ap, _∙_}
-use mathlib.Core.Bool.{Bool, true, false, not, _&&_, _||_, or-true}
+use mathlib.Core.Path.{_≡_, refl, ap, _∙_}
+use mathlib.Core.Bool.{Bool, true, false, not, _||_, or-true}
 use mathlib.Core.List.{[], _∷_, _++_}
 use Prim.Native.Nat.{ℕ, zero, suc, _+_, _-_, _/_, _%_, _≤_, _<_}
 use native.Mathlib.Nat.{le-of-suc-le-suc}
 use native.Mathlib.Omega.{arith}
-use borrow.Author.Tests.{eqb-true, eqb-false, eq-eqb, ne-eqb, lt-ltb, le-ltb, ltb-true, ltb-false, le-leb, lt-leb}
+use borrow.Author.Tests.{eqb-true, eqb-false, ne-eqb, ltb-true, ltb-false, le-leb, lt-leb}
 use lib.Dec.{eqb, ltb}
 use lib.ListN.{length, getD}
 use Rattle.octets.specs.Pick.{pick}
@@ -15,7 +15,7 @@ use Rattle.utf8.specs.Characters.{characterLength, numberOf, rightCharacter, ch
 use Rattle.utf8.proofs.Lead.{ascii, ascii-length, ascii-character, tail-length}
 use Rattle.escapes.specs.Hidden.{isHidden}
 use Rattle.escapes.specs.Escape.{backslash, hexDigit, escapeOf, shownLength, escapedFrom, escaped}
-use Rattle.escapes.specs.Statements.{isHarmless, allHarmless, Harmless, NothingDrives}
+use Rattle.escapes.specs.Statements.{isHarmless, allHarmless, NothingDrives}
 use Rattle.escapes.proofs.Escaping.{escape-backslash, escape-other}
 use Rattle.escapes.proofs.Images.{Shown, at-end, past, as-it-stands, in-escape, by-images, number-there, right-there}
 

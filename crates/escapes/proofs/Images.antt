@@ -1,5 +1,5 @@
 -- The images of an escaped text, one by one. Assumes nothing.
-use mathlib.Core.Path.{_≡_, refl, sym, ap, _∙_}
+use mathlib.Core.Path.{_≡_, refl, ap}
 use mathlib.Core.Bool.{Bool, true, false, _&&_}
 use mathlib.Core.Logic.{_⊎_, inl, inr, ⊎-elim}
 use mathlib.Core.List.{[], _∷_, _++_}
@@ -7,11 +7,10 @@ use Prim.Native.Nat.{ℕ, zero, suc, _+_, _-_, _*_, _%_, _≤_, _<_}
 use native.Mathlib.Omega.{arith}
 use borrow.Author.Tests.{leb-true}
 use lib.Dec.{leb}
-use Rattle.octets.specs.Pick.{pick}
 use Rattle.octets.specs.Octets.{Bytes, Octets}
 use Rattle.octets.proofs.Parts.{octets-tail}
 use Rattle.octets.proofs.Tests.{both}
-use Rattle.utf8.specs.Characters.{characterLength, leadBits, tailsFollow, numberWith, numberOf, rightNumber, rightCharacter, characterOf}
+use Rattle.utf8.specs.Characters.{characterLength, leadBits, tailsFollow, numberWith, numberOf, rightCharacter, characterOf}
 use Rattle.utf8.proofs.Characters.{some-bytes}
 use Rattle.escapes.specs.Hidden.{isHidden}
 use Rattle.escapes.specs.Escape.{escapeOf, imageOf, isShown, shownLength, escapedFrom}

@@ -1,5 +1,5 @@
 -- A signed number in decimal, and a gain in decibels. Assumes nothing.
-use Prim.Native.Nat.{ℕ, suc, _*_, _/_, _%_}
+use Prim.Native.Nat.{_*_, _/_, _%_}
 use mathlib.Core.List.{[], _∷_, _++_}
 use lib.IntN.{ℤ, pos, negsuc, natAbs}
 use Rattle.octets.specs.Octets.{Bytes}

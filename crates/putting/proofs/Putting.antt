@@ -1,5 +1,5 @@
 -- Parts that fit and parts that do not, by orders; and a line made in a buffer of its own. Assumes nothing.
-use mathlib.Core.Path.{_≡_, refl, sym, ap, _∙_}
+use mathlib.Core.Path.{_≡_, ap, _∙_}
 use mathlib.Core.List.{_++_}
 use Prim.Native.Nat.{ℕ, _+_, _≤_, _<_}
 use native.Mathlib.Nat.{le-refl}
@@ -7,7 +7,7 @@ use native.Mathlib.Omega.{arith}
 use borrow.Author.Tests.{le-leb, lt-ltb, le-ltb}
 use lib.ListN.{length, take}
 use lib.Seq.{take-length, take-paste}
-use Rattle.octets.specs.Octets.{Bytes, copied}
+use Rattle.octets.specs.Octets.{Bytes}
 use Rattle.octets.proofs.Copying.{copied-fits, length-copied}
 use Rattle.lines.specs.Writing.{placeBehind, Put, Laid}
 use Rattle.lines.proofs.Laying.{put-all, put-none, laid-next}

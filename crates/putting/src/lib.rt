@@ -1,5 +1,4 @@
 // Bytes put whole into a lent buffer. The laws of this crate make a line of parts.
-ghost use mathlib.Core.Path.{_≡_};
 ghost use Rattle.lines.specs.Writing.{Put};
 
 // Puts all of s into a lent buffer from place `at` on, or nothing where it does not fit, and answers the place behind it.

@@ -1,7 +1,7 @@
 -- The parts of each line, laid one behind the other. Assumes nothing.
-use mathlib.Core.Path.{_≡_, refl, sym, ap, _∙_}
-use mathlib.Core.Bool.{Bool, true, false}
-use mathlib.Core.List.{[], _∷_, _++_, append-assoc}
+use mathlib.Core.Path.{_≡_, ap, _∙_}
+use mathlib.Core.Bool.{true, false}
+use mathlib.Core.List.{[], _∷_, _++_}
 use Prim.Native.Nat.{ℕ, _+_, _*_, _^_, _≤_, _<_}
 use native.Mathlib.Numerals.{add-one}
 use native.Mathlib.Omega.{arith}
@@ -15,7 +15,7 @@ use Rattle.lines.specs.Decimal.{decimal}
 use Rattle.lines.specs.Lines.{space, lineFeed}
 use Rattle.lines.specs.Writing.{Put, Laid}
 use Rattle.lines.proofs.Decimal.{length-most}
-use Rattle.putting.proofs.Putting.{put-known, laid-put, laid-then, length-laid, front}
+use Rattle.putting.proofs.Putting.{put-known, laid-put, laid-then, front}
 use Rattle.number_text.specs.Numbers.{decibels}
 use Rattle.number_text.proofs.Texts.{length-decibels}
 use Rattle.escapes.specs.Escape.{escaped}

@@ -8,8 +8,6 @@ use Rattle.octets.specs.Octets.{Bytes}
 use Rattle.refusal.specs.Told.{Told, gives, refuses}
 use Rattle.lines.specs.Decimal.{decimal}
 use Rattle.lines.specs.Lines.{space, lineFeed}
-use Rattle.opus_head.specs.declared.Head.{Head}
-use Rattle.opus_head.specs.Right.{usedPlaces}
 use Rattle.opus_comment.specs.Names.{isNamed}
 use Rattle.opus_comment.specs.Gain.{commentGain}
 use Rattle.opus_tags.specs.Right.{trackGain, albumGain}

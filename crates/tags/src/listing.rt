@@ -76,6 +76,7 @@ fn list_comments(first: Listing, n: usize, packet: &[u8], out: &mut [u8]) -> Lis
     l
 }
 
+// The output buffer has room for any one line: a packet has at most 61,440 bytes, and an escape four for each.
 pub(crate) fn list(head: Head, packet: &[u8]) {
     let mut out = [0u8; 262144];
     let vendor = part_at(packet, 8);

@@ -20,6 +20,7 @@ pub(crate) fn write(out: &[u8], n: usize) -> bool {
     written
 }
 
+// The input buffer has room for a page, of 65,307 bytes at most, and for a read as long behind it.
 fn main() {
     let mut buffer = [0u8; 131072];
     let mut carry = [0u8; 61440];

@@ -4,7 +4,6 @@ use mathlib.Core.Bool.{true, false}
 use borrow.Author.Needs.{needs}
 use denote.Ref.{now}
 use Rattle.escapes.specs.Hidden.{isHidden}
-use Rattle.escapes.specs.Escape.{bytesShown, sizeShown}
 use Rattle.escapes.proofs.Escaping.{shown-before, shown-at}
 use Rattle.escapes.proofs.bytes_shown.Statement.{statement}
 use Rattle.escapes.proofs.bytes_shown.Tie as tie

@@ -1,5 +1,4 @@
 -- `escapes::is_hidden` meets its contract: one test for each range of the list. Assumes nothing.
-use mathlib.Core.Path.{sym, ap, _∙_}
 use mathlib.Core.Bool.{or-assoc, or-false}
 use Rattle.escapes.specs.Hidden.{isHidden}
 use Rattle.escapes.proofs.is_hidden.Statement.{statement}

@@ -1,13 +1,11 @@
 -- `escapes::put_image` meets its contract. Assumes nothing.
-use mathlib.Core.Path.{_≡_, refl, ap}
-use mathlib.Core.Bool.{Bool}
+use mathlib.Core.Path.{refl}
 use Prim.Native.Nat.{_+_, _≤_}
 use native.Mathlib.Omega.{arith}
 use borrow.Author.Needs.{needs}
 use denote.Ref.{now}
 use lib.ListN.{length}
 use Rattle.lines.proofs.Laying.{one-store, laid-as}
-use Rattle.escapes.specs.Escape.{imageOf}
 use Rattle.escapes.proofs.Escaping.{shown, not-shown}
 use Rattle.escapes.proofs.put_image.Statement.{statement}
 use Rattle.escapes.proofs.put_image.Tie as tie

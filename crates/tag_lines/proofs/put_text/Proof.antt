@@ -1,5 +1,4 @@
 -- `tag_lines::put_text` meets its contract. Assumes nothing.
-use mathlib.Core.Path.{_≡_}
 use mathlib.Core.List.{_++_}
 use Prim.Native.Nat.{_+_, _-_, _≤_}
 use native.Mathlib.Omega.{arith}
