@@ -5,14 +5,14 @@ use mathlib.Core.List.{[], _∷_}
 use Prim.Native.Nat.{ℕ, zero, suc, _+_, _-_, _≤_, _<_}
 use native.Mathlib.Numerals.{add-one}
 use native.Mathlib.Omega.{arith}
-use borrow.Author.Tests.{le-leb, leb-true}
-use lib.Dec.{leb}
+use borrow.Author.Tests.{le-leb, leb-true, lt-ltb, le-ltb}
+use lib.Dec.{leb, ltb, eqb}
 use lib.ListN.{length, getD, drop, length-drop}
 use lib.Seq.{drop-cons, drop-drop}
 use Rattle.octets.specs.Pick.{pick}
 use Rattle.octets.specs.Octets.{Bytes}
 use Rattle.octets.proofs.Tests.{both}
-use Rattle.utf8.specs.Characters.{characterLength, leadBits, tailsFollow, numberWith, rightNumber, rightCharacter, lengthAt, utf8From}
+use Rattle.utf8.specs.Characters.{leadingOnes, characterLength, leadBits, tailsFollow, numberWith, rightNumber, rightCharacter, lengthAt, noCharacter, characterOf, characterAt, utf8From}
 
 -- ---- a character that begins with b, whose length n and the rest s are at hand
 
@@ -46,7 +46,7 @@ long-enough (suc n) (b ∷ s) e = omega (arith, long-enough n s (both (leb 0x80 
 
 -- a right character has a byte at least, and does not pass the end
 module _ (b : ℕ) (s : Bytes) (right : rightCharacter b s ≡ true) where
-  some-bytes : 1 ≤ characterLength b
+  pub some-bytes : 1 ≤ characterLength b
   unfolding rightCharacter
   some-bytes = leb-true 1 (characterLength b) (both _ _ right .0)
 
@@ -76,7 +76,7 @@ module _ (s : Bytes) (i n : ℕ) (inside : i < length s) where
 
   -- where it is right
   module _ (e : n ≡ lengthAt s i) (some : n ≡ 0 → ⊥) where
-    is-right : (rightCharacter lead rest ≡ true) × (n ≡ characterLength lead)
+    pub is-right : (rightCharacter lead rest ≡ true) × (n ≡ characterLength lead)
     is-right = by (rightCharacter lead rest) refl e
       where
         by : (t : Bool) → rightCharacter lead rest ≡ t → n ≡ pick t (characterLength lead) 0
@@ -93,3 +93,37 @@ module _ (s : Bytes) (i n : ℕ) (inside : i < length s) where
         let place : i + 1 + (n - 1) ≡ i + n = omega (arith, some-bytes lead rest (is-right .0), is-right .1) in
         let on : drop (n - 1) rest ≡ drop (i + n) s = rw (drop-drop, place) in
         rw (split, is-right .0, ← is-right .1, behind (n - 1) rest, on)
+
+-- ---- a character as its size and its number
+
+pub length-most : (b : ℕ) → characterLength b ≤ 4
+unfolding characterLength
+length-most b = by (eqb (leadingOnes b) 0) (eqb (leadingOnes b) 2) (eqb (leadingOnes b) 3) (eqb (leadingOnes b) 4)
+  where
+    by : (j k l m : Bool) → pick j 1 (pick k 2 (pick l 3 (pick m 4 0))) ≤ 4
+    by true k l m = omega arith
+    by false true l m = omega arith
+    by false false true m = omega arith
+    by false false false true = omega arith
+    by false false false false = omega arith
+
+pub past-end : (s : Bytes) (i : ℕ) → length s ≤ i → characterAt s i ≡ noCharacter
+unfolding characterAt
+past-end s i h = rw (le-ltb i (length s) h)
+
+module _ (s : Bytes) (i n : ℕ) (inside : i < length s) (e : n ≡ lengthAt s i) where
+  pub none-here : n ≡ 0 → characterAt s i ≡ noCharacter
+  unfolding characterAt characterOf
+  none-here z = rw (lt-ltb i (length s) inside) (by (rightCharacter (lead s i n inside) (rest s i n inside)) refl e)
+    where
+      by : (t : Bool) → rightCharacter (lead s i n inside) (rest s i n inside) ≡ t → n ≡ pick t (characterLength (lead s i n inside)) 0
+          → characterOf (lead s i n inside) (rest s i n inside) ≡ noCharacter
+      by true r e = absurd (omega (arith, some-bytes (lead s i n inside) (rest s i n inside) r))
+      by false r e = rw r
+
+  pub some-here : (some : n ≡ 0 → ⊥) (x b : ℕ) → b ≡ leadBits (getD s i 0) → x ≡ numberWith b (n - 1) (drop (i + 1) s)
+      → record { size = n; number = x } ≡ characterAt s i
+  unfolding characterAt characterOf
+  some-here some x b f g =
+      let r = is-right s i n inside e some in
+      rw (lt-ltb i (length s) inside, r .0, g, f, r .1)

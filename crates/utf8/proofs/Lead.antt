@@ -3,7 +3,7 @@
 use mathlib.Core.Path.{_≡_, refl, sym}
 use mathlib.Core.Bool.{Bool, true, _&&_, _||_}
 use mathlib.Core.Logic.{⊎-elim}
-use Prim.Native.Nat.{ℕ, zero, suc, _%_, _≤_, _<_}
+use Prim.Native.Nat.{ℕ, zero, suc, _+_, _-_, _%_, _≤_, _<_}
 use native.Mathlib.Nat.{not-suc-le-zero, le-of-suc-le-suc, eq-or-lt-of-le}
 use native.Mathlib.Omega.{arith}
 use borrow.Author.Tests.{eqb-true, ne-eqb, le-leb, lt-leb}
@@ -12,7 +12,7 @@ use lib.Dec.{eqb}
 use Rattle.octets.specs.Pick.{pick}
 use Rattle.octets.specs.Octets.{Bytes}
 use Rattle.octets.proofs.Tests.{both}
-use Rattle.utf8.specs.Characters.{characterLength, leadBits, tailsFollow, numberWith, rightNumber, rightCharacter}
+use Rattle.utf8.specs.Characters.{characterLength, leadBits, tailsFollow, numberWith, rightNumber, rightCharacter, characterOf}
 
 -- the test passes at each number below n
 abbrev below : (ℕ → Bool) → ℕ → Bool
@@ -53,3 +53,20 @@ unfolding rightCharacter tailsFollow numberWith rightNumber
 ascii b s h =
     let bits : b ≡ leadBits b = lead-bits b 1 (omega arith) (sym (ascii-length b h)) (omega arith) in
     rw (ascii-length b h, ← bits) (simp (le-leb 0 b (omega arith), le-leb b 0x10FFFF (omega arith), lt-leb 0xD800 b (omega arith)))
+
+-- a byte below 0x80 is a character
+pub ascii-character : (b : ℕ) (s : Bytes) → b < 128 → characterOf b s ≡ record { size = 1; number = b }
+unfolding characterOf numberWith
+ascii-character b s h =
+    let bits : leadBits b ≡ b = sym (lead-bits b 1 (omega arith) (sym (ascii-length b h)) (omega arith)) in
+    rw (ascii b s h, ascii-length b h, bits)
+
+-- no character begins with a byte that goes on in one
+goesOn : ℕ → Bool
+goesOn n = eqb (characterLength (0x80 + n)) 0
+
+pub tail-length : (b : ℕ) → 0x80 ≤ b → b ≤ 0xBF → characterLength b ≡ 0
+unfolding goesOn leadingZeros characterLength
+tail-length b low high =
+    let same : 0x80 + (b - 0x80) ≡ b = omega arith in
+    rw same at (eqb-true (characterLength (0x80 + (b - 0x80))) 0 (at goesOn 64 refl (b - 0x80) (omega arith)))

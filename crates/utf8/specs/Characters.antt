@@ -4,10 +4,11 @@ use Prim.Native.Nat.{ℕ, zero, suc, _+_, _-_, _*_, _%_, _^_}
 use mathlib.Core.Bool.{Bool, true, false, not, _&&_}
 use mathlib.Core.List.{[], _∷_}
 use lib.Count.{leadingZeros}
-use lib.Dec.{leb, eqb}
-use lib.ListN.{getD, drop}
+use lib.Dec.{leb, ltb, eqb}
+use lib.ListN.{length, getD, drop}
 use Rattle.octets.specs.Pick.{pick}
 use Rattle.octets.specs.Octets.{Bytes}
+use Rattle.utf8.specs.declared.Character.{Character}
 
 -- how many ones a byte begins with
 abbrev pub leadingOnes : ℕ → ℕ
@@ -46,15 +47,29 @@ isSurrogate x = leb 0xD800 x && leb x 0xDFFF
 unfoldable pub rightNumber : ℕ → ℕ → Bool
 rightNumber n x = leb (leastOf n) x && (leb x 0x10FFFF && not (isSurrogate x))
 
--- a right character begins with the byte b and goes on in s
+-- the number of the character that begins with the byte b and goes on in s
+abbrev pub numberOf : ℕ → Bytes → ℕ
+numberOf b s = numberWith (leadBits b) (characterLength b - 1) s
+
+-- that character is right
 unfoldable pub rightCharacter : ℕ → Bytes → Bool
 rightCharacter b s =
-    leb 1 (characterLength b)
-    && (tailsFollow (characterLength b - 1) s && rightNumber (characterLength b) (numberWith (leadBits b) (characterLength b - 1) s))
+    leb 1 (characterLength b) && (tailsFollow (characterLength b - 1) s && rightNumber (characterLength b) (numberOf b s))
 
 -- the length of the right character at a place, 0 where none stands
 abbrev pub lengthAt : Bytes → ℕ → ℕ
 lengthAt s at = pick (rightCharacter (getD s at 0) (drop (at + 1) s)) (characterLength (getD s at 0)) 0
+
+-- the right character that begins with the byte b and goes on in s; where it is not right, its size is 0, and its number too
+abbrev pub noCharacter : Character
+noCharacter = record { size = 0; number = 0 }
+
+unfoldable pub characterOf : ℕ → Bytes → Character
+characterOf b s = pick (rightCharacter b s) (record { size = characterLength b; number = numberOf b s }) noCharacter
+
+-- the character at a place
+unfoldable pub characterAt : Bytes → ℕ → Character
+characterAt s at = pick (ltb at (length s)) (characterOf (getD s at 0) (drop (at + 1) s)) noCharacter
 
 -- right characters follow each other to the end, behind k bytes of one that was judged with its lead byte
 unfoldable pub utf8From : ℕ → Bytes → Bool

@@ -2,7 +2,13 @@
 ghost use mathlib.Core.Path.{_≡_};
 ghost use Prim.Native.Nat.{_≤_, _<_};
 ghost use lib.ListN.{length, drop};
-ghost use Rattle.utf8.specs.Characters.{characterLength, leadBits, tailsFollow, numberWith, leastOf, rightNumber, lengthAt, utf8};
+ghost use Rattle.utf8.specs.Characters.{characterLength, leadBits, tailsFollow, numberWith, leastOf, rightNumber, lengthAt, noCharacter, characterAt, utf8};
+
+// A right character: how many bytes it has, and its number. Where none stands both are 0.
+pub struct Character {
+    pub size: usize,
+    pub number: u32,
+}
 
 // How many bytes the character has that begins with this byte; 0 where none begins so.
 fn character_length(lead: u8) -> usize
@@ -123,6 +129,30 @@ fn character_at(s: &[u8], at: usize) -> usize
         return 0;
     }
     n
+}
+
+fn no_character() -> Character
+    ensures { λ r. ⌜ r ≡ noCharacter ⌝ }
+{
+    Character { size: 0, number: 0 }
+}
+
+// The right character that begins at this place.
+pub fn find_character(s: &[u8], at: usize) -> Character
+    ensures { λ r. ⌜ r ≡ characterAt (now (s .entry)) at ⌝ }
+{
+    if at >= s.len() {
+        return no_character();
+    }
+    let size = character_at(s, at);
+    if size == 0 {
+        return no_character();
+    }
+    let bits = lead_bits(s[at], size);
+    Character {
+        size,
+        number: number_with(bits, size - 1, s, at + 1),
+    }
 }
 
 // Whether the bytes are UTF-8: shortest forms, no surrogates, no character above 10FFFF, none cut short.

@@ -1,0 +1,4 @@
+pub mod Escaping
+pub mod Images
+pub mod Undoing
+pub mod Harmless

@@ -1,0 +1,4 @@
+pub mod Hidden
+pub mod Escape
+pub mod Undo
+pub mod Statements

@@ -1,0 +1,81 @@
+-- The parts of each line, laid one behind the other. Assumes nothing.
+use mathlib.Core.Path.{_≡_, ap, _∙_}
+use mathlib.Core.Bool.{true, false}
+use mathlib.Core.List.{[], _∷_, _++_}
+use Prim.Native.Nat.{ℕ, _+_, _*_, _^_, _≤_, _<_}
+use native.Mathlib.Numerals.{add-one}
+use native.Mathlib.Omega.{arith}
+use lib.IntN.{ℤ}
+use lib.ListN.{length, take, getD, drop, length-append, drop-of-length-le}
+use lib.Seq.{drop-cons}
+use lib.Signed.{mag}
+use Rattle.octets.specs.Octets.{Bytes, Octets}
+use Rattle.octets.proofs.Parts.{octets-tail}
+use Rattle.lines.specs.Decimal.{decimal}
+use Rattle.lines.specs.Lines.{space, lineFeed}
+use Rattle.lines.specs.Writing.{Put, Laid}
+use Rattle.lines.proofs.Decimal.{length-most}
+use Rattle.putting.proofs.Putting.{put-known, laid-put, laid-then, front}
+use Rattle.number_text.specs.Numbers.{decibels}
+use Rattle.number_text.proofs.Texts.{length-decibels}
+use Rattle.escapes.specs.Escape.{escaped}
+use Rattle.opus_comment.specs.Gain.{commentGain}
+use Rattle.tag_lines.specs.Lines.{tab, decibelsEnd, spaced, isGain, textLine, gainEnd, commentEnd}
+
+-- a line whose end was made in a buffer z
+pub put-ended : {d e f z p s : Bytes} {at n r : ℕ} (name : Bytes) → Laid z 0 s n e → length s ≤ length z → p ≡ take n e
+    → Put d at (name ++ p) r f → Put d at (name ++ s) r f
+put-ended name x room same y = put-known (ap (λ (t : Bytes). name ++ t) (same ∙ front x room)) y
+
+-- ---- decibels
+
+pub length-end : (g : ℤ) → mag g < 2 ^ 15 → length (decibelsEnd g) ≤ 35
+unfolding decibelsEnd
+length-end g small = let most = length-decibels g small in simp length-append (omega arith)
+
+pub laid-end : {d v w x : Bytes} {at a b r : ℕ} (g : ℤ) → mag g < 2 ^ 15 → at + 35 ≤ length d
+    → Put d at tab a v → Put v a (decibels g) b w → Put w b lineFeed r x → Laid d at (decibelsEnd g) r x
+unfolding decibelsEnd
+laid-end g small room e f h =
+    let most = length-decibels g small in
+    let first = laid-put (omega arith) e in
+    let second = laid-then first (omega (arith, first .place)) f in
+    let both = length-append tab (decibels g) in
+    laid-then second (omega (arith, second .place)) h
+
+-- ---- the mapping
+
+length-index : (i : ℕ) → i < 256 → length (space ++ decimal i) ≤ 4
+length-index i small = omega (arith, length-append space (decimal i), length-most i 2 (omega arith))
+
+pub length-spaced : (s : Bytes) → Octets s → length (spaced s) ≤ 4 * length s
+unfolding spaced
+length-spaced [] o = omega arith
+length-spaced (i ∷ s) o =
+    omega (arith, length-append (space ++ decimal i) (spaced s), length-index i (o .below 0), length-spaced s (octets-tail o))
+
+pub next-index : (s : Bytes) (i : ℕ) → i < length s → spaced (drop i s) ≡ (space ++ decimal (getD s i 0)) ++ spaced (drop (i + 1) s)
+unfolding spaced
+next-index s i inside =
+    let split : drop i s ≡ getD s i 0 ∷ drop (i + 1) s = rw add-one (drop-cons s i 0 inside) in
+    rw split
+
+pub no-index : (s : Bytes) (i : ℕ) → length s ≤ i → spaced (drop i s) ≡ []
+unfolding spaced
+no-index s i h = rw (drop-of-length-le s h)
+
+-- ---- texts
+
+pub length-text : (name text end : Bytes) → length (textLine name text end) ≡ length name + length (escaped text) + length end
+unfolding textLine
+length-text name text end = length-append (name ++ escaped text) end ∙ ap (λ (n : ℕ). n + length end) (length-append name (escaped text))
+
+-- ---- the end of a comment's line
+
+pub end-plain : (c : Bytes) → isGain c ≡ false → commentEnd c ≡ lineFeed
+unfolding commentEnd
+end-plain c e = rw e
+
+pub end-gain : (c : Bytes) → isGain c ≡ true → commentEnd c ≡ gainEnd (commentGain c)
+unfolding commentEnd
+end-gain c e = rw e

@@ -1,0 +1,265 @@
+// Reading standard input, and feeding its pages up to the comment header.
+use head_fields::Head;
+use ogg_page::Extent;
+use reader::Fed;
+use reader::Reader;
+
+// Feeding goes on, or has ended: with a comment packet of this length in the carry buffer, by a refusal, at the end of the
+// input, or by a read that failed.
+pub(crate) enum Stage {
+    Feeding,
+    Complete(usize),
+    Refused(u8),
+    Cut,
+    Unread,
+}
+
+// How far feeding has come.
+pub(crate) struct Progress {
+    reader: Reader,
+    pub(crate) head: Head,
+    pub(crate) pages: u64,
+    pub(crate) stage: Stage,
+}
+
+// The bytes of the input buffer from `start` to `end` are read and not fed.
+struct State {
+    progress: Progress,
+    start: usize,
+    end: usize,
+}
+
+enum Got {
+    Bytes(usize),
+    Nothing,
+    Failed,
+}
+
+// ---- reading
+
+// Moves the bytes from `start` to `end` to the front, and tells how many they are.
+fn move_down(buffer: &mut [u8], start: usize, end: usize) -> usize {
+    let last = octets::least(end, buffer.len());
+    let mut from = start;
+    let mut to = 0;
+    while from < last {
+        buffer[to] = buffer[from];
+        from += 1;
+        to += 1;
+    }
+    to
+}
+
+// Reads on behind the first n bytes, and tells where the bytes end now.
+fn read_behind(buffer: &mut [u8], n: usize) -> Got {
+    let at = octets::least(n, buffer.len());
+    let got = libc::read(0, &mut buffer[at..]);
+    if got < 0 {
+        return Got::Failed;
+    }
+    if got == 0 {
+        return Got::Nothing;
+    }
+    let more = io::count(got, &buffer[at..]);
+    Got::Bytes(std::num::wrapping_add_usize(at, more))
+}
+
+// Where the page ends that starts at `start`; 0 where it is not whole yet. Bytes that begin no page are fed as they stand.
+fn page_end(buffer: &[u8], start: usize, end: usize) -> usize {
+    match ogg_page::page_extent(octets::part_of(buffer, 0, end), start) {
+        Extent::Ends(last) => {
+            if last > end {
+                return 0;
+            }
+            last
+        }
+        Extent::Short => 0,
+        Extent::NoPage => end,
+    }
+}
+
+// ---- feeding
+
+fn stopped(p: Progress, stage: Stage) -> Progress {
+    let reader = p.reader;
+    let head = p.head;
+    Progress {
+        reader,
+        head,
+        pages: p.pages,
+        stage,
+    }
+}
+
+// The stage after a page of the comment packet, which has the bytes held before that page and its body.
+fn comment_stage(before: Reader, next: Reader, body: &[u8]) -> Stage {
+    if reader::held(next) > 0 {
+        return Stage::Feeding;
+    }
+    Stage::Complete(std::num::wrapping_add_usize(reader::held(before), body.len()))
+}
+
+// After the first page was accepted, which is the identification header, or a page of the comment packet.
+fn accepted(p: Progress, next: Reader, body: &[u8]) -> Progress {
+    if p.pages == 0 {
+        let read = opus_head::read_head(body);
+        let head = read.head;
+        return Progress {
+            reader: next,
+            head,
+            pages: 1,
+            stage: Stage::Feeding,
+        };
+    }
+    let before = p.reader;
+    let head = p.head;
+    Progress {
+        reader: next,
+        head,
+        pages: std::num::wrapping_add_u64(p.pages, 1),
+        stage: comment_stage(before, next, body),
+    }
+}
+
+fn fed_page(p: Progress, fed: Fed, body: &[u8]) -> Progress {
+    match fed {
+        Fed::Accepted(next, _) => accepted(p, next, body),
+        Fed::Refused(why) => stopped(p, Stage::Refused(refusal::number(why))),
+    }
+}
+
+fn feed_page(
+    p: Progress,
+    page: &[u8],
+    carry: &mut [u8],
+    ends: &mut [u64],
+    sizes: &mut [u64],
+    kept: &mut [u64],
+) -> Progress {
+    let reader = p.reader;
+    let fed = reader::feed(reader, page, carry, ends, sizes, kept);
+    fed_page(p, fed, ogg_page::body_of(page))
+}
+
+// At the end of the input: bytes of a page that is not whole are fed as they stand.
+fn feed_rest(
+    p: Progress,
+    rest: &[u8],
+    carry: &mut [u8],
+    ends: &mut [u64],
+    sizes: &mut [u64],
+    kept: &mut [u64],
+) -> Progress {
+    if rest.len() == 0 {
+        return stopped(p, Stage::Cut);
+    }
+    feed_page(p, rest, carry, ends, sizes, kept)
+}
+
+// Reads on where no page is whole.
+fn read_turn(
+    p: Progress,
+    n: usize,
+    buffer: &mut [u8],
+    carry: &mut [u8],
+    ends: &mut [u64],
+    sizes: &mut [u64],
+    kept: &mut [u64],
+) -> State {
+    match read_behind(buffer, n) {
+        Got::Bytes(end) => State {
+            progress: p,
+            start: 0,
+            end,
+        },
+        Got::Nothing => State {
+            progress: feed_rest(p, octets::part_of(buffer, 0, n), carry, ends, sizes, kept),
+            start: 0,
+            end: 0,
+        },
+        Got::Failed => State {
+            progress: stopped(p, Stage::Unread),
+            start: 0,
+            end: 0,
+        },
+    }
+}
+
+// Feeds one page, or reads on.
+fn turn(
+    s: State,
+    buffer: &mut [u8],
+    carry: &mut [u8],
+    ends: &mut [u64],
+    sizes: &mut [u64],
+    kept: &mut [u64],
+) -> State {
+    let p = s.progress;
+    let start = s.start;
+    let end = s.end;
+    let last = page_end(buffer, start, end);
+    if last <= start {
+        let n = move_down(buffer, start, end);
+        return read_turn(p, n, buffer, carry, ends, sizes, kept);
+    }
+    State {
+        progress: feed_page(
+            p,
+            octets::part_of(buffer, start, last - start),
+            carry,
+            ends,
+            sizes,
+            kept,
+        ),
+        start: last,
+        end,
+    }
+}
+
+fn goes_on(p: Progress) -> bool {
+    let stage = p.stage;
+    match stage {
+        Stage::Feeding => true,
+        Stage::Complete(_) => false,
+        Stage::Refused(_) => false,
+        Stage::Cut => false,
+        Stage::Unread => false,
+    }
+}
+
+// Nothing is fed yet, and no header is known: the fields are those of a reading that is refused.
+fn begin() -> State {
+    let read = opus_head::read_head(b"");
+    let head = read.head;
+    State {
+        progress: Progress {
+            reader: reader::start(),
+            head,
+            pages: 0,
+            stage: Stage::Feeding,
+        },
+        start: 0,
+        end: 0,
+    }
+}
+
+// Reads and feeds until the stage is another.
+pub(crate) fn run(
+    buffer: &mut [u8],
+    carry: &mut [u8],
+    ends: &mut [u64],
+    sizes: &mut [u64],
+    kept: &mut [u64],
+) -> Progress {
+    let mut turns = u64::MAX;
+    let mut s = begin();
+    while turns > 0 {
+        s = turn(s, buffer, carry, ends, sizes, kept);
+        let p = s.progress;
+        if !goes_on(p) {
+            return p;
+        }
+        turns -= 1;
+    }
+    s.progress
+}
