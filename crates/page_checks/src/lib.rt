@@ -9,6 +9,7 @@ ghost use Rattle.stream.specs.State.{inHeaders, expecting};
 ghost use Rattle.stream.specs.Rules.{wrongFlags, fieldChecks};
 ghost use Rattle.stream.specs.Feed.{view};
 ghost use Rattle.page_checks.specs.Checked.{found, isPending};
+use granule::Position;
 use ogg_page::PageHeader;
 use refusal::Refusal;
 use stream::Core;
@@ -126,6 +127,44 @@ pub fn check_fields(core: Core, h: PageHeader) -> Checked
     )
 }
 
+fn same_position(p: Position) -> Position
+    ensures { λ r. ⌜ r ≡ p ⌝ }
+{
+    match p {
+        Position::Unset => Position::Unset,
+        Position::Joined => Position::Joined,
+        Position::At(g) => Position::At(g),
+    }
+}
+
+fn same_pending(p: Pending) -> Pending
+    ensures { λ r. ⌜ r ≡ p ⌝ }
+{
+    match p {
+        Pending::Nothing => Pending::Nothing,
+        Pending::Held(n) => Pending::Held(n),
+        Pending::Dropped => Pending::Dropped,
+    }
+}
+
+// The same core, its enums made anew: so the compiler need not copy, page after page, the unused bytes in them.
+fn anew(core: Core) -> Core
+    ensures { λ r. ⌜ r ≡ core ⌝ }
+{
+    let position = core.position;
+    let pending = core.pending;
+    let phase = core.phase;
+    Core {
+        phase,
+        pending: same_pending(pending),
+        position: same_position(position),
+        serial: core.serial,
+        next: core.next,
+        streams: core.streams,
+        preskip: core.preskip,
+    }
+}
+
 // The core that expects the page: a first page brings its serial, and a page that a reader was opened at its serial, its
 // sequence number and, by its continued mark, a dropped packet.
 pub fn expected(core: Core, h: PageHeader) -> Core
@@ -159,8 +198,8 @@ pub fn expected(core: Core, h: PageHeader) -> Core
                 preskip: core.preskip,
             }
         }
-        Phase::Comment => core,
-        Phase::Audio => core,
-        Phase::Ended => core,
+        Phase::Comment => anew(core),
+        Phase::Audio => anew(core),
+        Phase::Ended => anew(core),
     }
 }
