@@ -69,19 +69,6 @@ fn write_out(out: &[u8], n: usize) -> bool {
     done
 }
 
-// Moves the bytes from `from` to `to` to the buffer's start: how many there are.
-fn move_down(buffer: &mut [u8], from: usize, to: usize) -> usize {
-    let end = octets::least(to, buffer.len());
-    let mut n: usize = 0;
-    let mut i = from;
-    while i < end {
-        buffer[n] = buffer[i];
-        n += 1;
-        i += 1;
-    }
-    n
-}
-
 // One read, to the place `at` of the buffer. A failure is said on standard error.
 fn read_more(buffer: &mut [u8], at: usize) -> Input {
     let start = octets::least(at, buffer.len());
@@ -205,7 +192,7 @@ fn end_with_total(w: Listing, out: &mut [u8]) {
 
 // More input, where the last page of the buffer is not whole.
 fn read_on(w: Listing, buffer: &mut [u8], out: &mut [u8]) -> Step {
-    let n = move_down(buffer, w.from, w.to);
+    let n = buffers::move_down(buffer, w.from, w.to);
     match read_more(buffer, n) {
         Input::Bytes(to) => Step::Goes(moved(w, 0, to, Stop::Full)),
         Input::End => {

@@ -37,24 +37,15 @@ enum Got {
 
 // ---- reading
 
-// Moves the bytes from `start` to `end` to the front, and tells how many they are.
-fn move_down(buffer: &mut [u8], start: usize, end: usize) -> usize {
-    let last = octets::least(end, buffer.len());
-    let mut from = start;
-    let mut to = 0;
-    while from < last {
-        buffer[to] = buffer[from];
-        from += 1;
-        to += 1;
-    }
-    to
-}
-
-// Reads on behind the first n bytes, and tells where the bytes end now.
+// Reads on behind the first n bytes, and tells where the bytes end now. A failure is said on standard error.
 fn read_behind(buffer: &mut [u8], n: usize) -> Got {
     let at = octets::least(n, buffer.len());
-    let got = libc::read(0, &mut buffer[at..]);
+    let got = libc::read(libc::STDIN_FILENO, &mut buffer[at..]);
     if got < 0 {
+        if os::errno() == libc::EINTR {
+            return Got::Bytes(at);
+        }
+        os::fail(b"tags: cannot read standard input");
         return Got::Failed;
     }
     if got == 0 {
@@ -199,7 +190,7 @@ fn turn(
     let end = s.end;
     let last = page_end(buffer, start, end);
     if last <= start {
-        let n = move_down(buffer, start, end);
+        let n = buffers::move_down(buffer, start, end);
         return read_turn(p, n, buffer, carry, ends, sizes, kept);
     }
     State {

@@ -8,14 +8,14 @@ mod feeding;
 mod listing;
 
 fn say(message: &[u8]) {
-    io::write_all(2, message);
+    io::write_all(libc::STDERR_FILENO, message);
 }
 
-// Writes the first n bytes.
+// Writes the first n bytes. A failure is said on standard error.
 pub(crate) fn write(out: &[u8], n: usize) -> bool {
-    let written = io::write_all(1, octets::part_of(out, 0, n));
+    let written = io::write_all(libc::STDOUT_FILENO, octets::part_of(out, 0, n));
     if !written {
-        say(b"tags: cannot write\n");
+        os::fail(b"tags: cannot write");
     }
     written
 }
@@ -35,6 +35,6 @@ fn main() {
         Stage::Complete(size) => listing::list(head, octets::part_of(&carry, 0, size)),
         Stage::Refused(number) => listing::list_refused(number, p.pages),
         Stage::Cut => say(b"tags: the input ends before the comment header\n"),
-        Stage::Unread => say(b"tags: cannot read standard input\n"),
+        Stage::Unread => {}
     }
 }
