@@ -1,11 +1,11 @@
 -- A line laid by stores of eight bytes, each over the end of the one before. Assumes nothing.
-use mathlib.Core.Path.{_≡_, refl, sym, ap, _∙_}
-use mathlib.Core.List.{[], _∷_, _++_, append-assoc}
-use Prim.Native.Nat.{ℕ, zero, suc, _+_, _-_, _/_, _%_, _≤_, _<_}
+use mathlib.Core.Path.{_≡_, sym, ap, _∙_}
+use mathlib.Core.List.{_++_, append-assoc}
+use Prim.Native.Nat.{ℕ, _+_, _-_, _/_, _%_, _≤_}
 use native.Mathlib.Omega.{arith}
 use native.Mathlib.Nat.{le-refl}
-use lib.ListN.{length, take, drop, length-append, length-take, length-drop, take-append-drop}
-use lib.Seq.{paste, length-paste, take-paste, drop-paste, take-length, take-at, take-append-le, take-append-add, take-take, length-take-le, drop-drop}
+use lib.ListN.{length, take, drop, length-append, length-drop, take-append-drop}
+use lib.Seq.{paste, length-paste, drop-paste, take-at, take-append-le, take-append-add, take-take, length-take-le, drop-drop}
 use Rattle.octets.specs.Octets.{Bytes, copied}
 use Rattle.octets.specs.Numbers.{octets}
 use Rattle.octets.proofs.Copying.{copied-fits, length-copied, copied-append}
@@ -14,9 +14,9 @@ use Rattle.lines.specs.Decimal.{decimal}
 use Rattle.lines.specs.Digits.{lowest}
 use Rattle.lines.specs.Lines.{entryLine}
 use Rattle.lines.specs.Writing.{Laid}
-use Rattle.lines.proofs.Decimal.{decimal-fours, length-lowest, length-fours}
+use Rattle.lines.proofs.Decimal.{decimal-fours, length-lowest}
 use Rattle.entry_lines.specs.declared.Repeat.{Repeat}
-use Rattle.entry_lines.specs.Code.{tailLine, Has, Again}
+use Rattle.entry_lines.specs.Code.{tailLine, Again}
 
 -- a copy over another one that is no longer
 covered : (d : Bytes) (at : ℕ) (a s : Bytes) → length a ≤ length s → at + length s ≤ length d → copied (copied d at a) at s ≡ copied d at s

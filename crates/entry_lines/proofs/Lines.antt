@@ -13,7 +13,6 @@ use Rattle.octets.specs.Octets.{Bytes, copied}
 use Rattle.octets.proofs.Copying.{length-copied, copied-append}
 use Rattle.lines.specs.Lines.{entryLine}
 use Rattle.lines.specs.Writing.{Laid}
-use Rattle.entry_lines.specs.declared.Listed.{Listed}
 use Rattle.entry_lines.specs.Entries.{Lined, noLines, before, linesIn, PutLines}
 
 -- lines in front of others

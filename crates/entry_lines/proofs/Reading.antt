@@ -1,6 +1,6 @@
 -- The bytes of a line that stands in a buffer. Assumes nothing.
 use mathlib.Core.Path.{_≡_, sym, ap, _∙_}
-use mathlib.Core.List.{[], _∷_, _++_, append-assoc}
+use mathlib.Core.List.{_++_}
 use Prim.Native.Nat.{ℕ, _+_, _*_, _-_, _/_, _%_, _≤_, _<_}
 use native.Mathlib.Omega.{arith}
 use lib.ListN.{length, take, drop, length-append, length-drop}
@@ -12,8 +12,8 @@ use Rattle.octets.proofs.Numbers.{length-octets}
 use Rattle.octets.proofs.Parts.{take-within}
 use Rattle.lines.specs.Decimal.{decimal}
 use Rattle.lines.specs.Digits.{lowest}
-use Rattle.lines.specs.Lines.{space, lineFeed, entryLine}
-use Rattle.lines.proofs.Decimal.{decimal-fours, length-fours, length-more, length-most, length-lowest}
+use Rattle.lines.specs.Lines.{entryLine}
+use Rattle.lines.proofs.Decimal.{decimal-fours, length-more, length-most, length-lowest}
 use Rattle.lines.proofs.Reading.{decimal-right}
 use Rattle.entry_lines.specs.declared.Repeat.{Repeat}
 use Rattle.entry_lines.specs.Code.{tailLine, Has, Stands}

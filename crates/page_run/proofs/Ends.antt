@@ -1,18 +1,20 @@
 -- Where the next page ends: behind its start, and inside the buffer. Assumes nothing.
 use Prim.Native.Nat.{ℕ, _+_, _≤_, _<_}
 use mathlib.Core.Path.{_≡_, refl, sym}
-use mathlib.Core.Bool.{Bool, true, false, not}
+use mathlib.Core.Bool.{Bool, true, false, not, _&&_}
 use mathlib.Core.Option.{Option, none, some}
 use native.Mathlib.Omega.{arith}
-use borrow.Author.Tests.{ltb-false}
-use lib.Dec.{ltb}
+use borrow.Author.Tests.{ltb-true, ltb-false, ne-eqb}
+use lib.Dec.{ltb, eqb}
 use lib.ListN.{length, drop, length-drop}
 use Rattle.octets.specs.Pick.{pick}
 use Rattle.octets.specs.Octets.{Bytes}
 use Rattle.ogg_page.specs.declared.Extent.the-variants.{Ends, Short, NoPage}
-use Rattle.ogg_page.specs.Page.{hasCapture, countOf, sizeOf}
+use Rattle.ogg_page.specs.Page.{hasCapture, versionOf, countOf, sizeOf}
+use Rattle.ogg_page.specs.Reading.{isOnePage}
 use Rattle.ogg_page.specs.Extent.{extentIn, pageExtent}
 use Rattle.page_run.specs.Run.{endIn, endAt}
+use Rattle.page_run.specs.Statements.{CutIsNoPage}
 
 -- nothing is not something
 pub none-some : {A X : Type 0} {x : X} → none ≡ some x → A
@@ -44,3 +46,36 @@ module _ (b : Bytes) (at e : ℕ) where
           let same : at + sizeOf s ≡ e = cc in
           let inside : at + sizeOf s ≤ length b = ltb-false (length b) (at + sizeOf s) q in
           (omega (arith, some-size), omega arith)
+
+neither : (a b : Bool) → a && (b && false) ≡ false
+neither true true = refl
+neither true false = refl
+neither false b = refl
+
+module _ (b : Bytes) (at : ℕ) where
+  short-size : 27 + countOf (drop at b) ≤ sizeOf (drop at b)
+  unfolding sizeOf
+  short-size = omega arith
+
+  no-page : length (drop at b) < sizeOf (drop at b) → isOnePage (drop at b) ≡ false
+  unfolding isOnePage
+  no-page l =
+      let s : Bytes = drop at b in
+      rw (ne-eqb (length s) (sizeOf s) (λ e. omega arith)) (neither (hasCapture s) (eqb (versionOf s) 0))
+
+pub cut-is-no-page : CutIsNoPage
+unfolding endAt pageExtent extentIn
+cut-is-no-page b at h = by (ltb (length s) 27) refl (not (hasCapture s)) (ltb (length s) (27 + countOf s)) refl (ltb (length b) (at + sizeOf s)) refl h
+  where
+    s : Bytes
+    s = drop at b
+
+    by : (x : Bool) → ltb (length s) 27 ≡ x → (y z : Bool) → ltb (length s) (27 + countOf s) ≡ z → (w : Bool) → ltb (length b) (at + sizeOf s) ≡ w
+        → endIn (pick x Short (pick y NoPage (pick z Short (Ends (at + sizeOf s))))) (length b) ≡ none → isOnePage s ≡ false
+    by true p y z r w q k = no-page b at (omega (arith, ltb-true (length s) 27 p, short-size b at))
+    by false p true z r w q k = none-some (sym k)
+    by false p false true r w q k = no-page b at (omega (arith, ltb-true (length s) (27 + countOf s) r, short-size b at))
+    by false p false false r true q k =
+        let long = ltb-false (length s) 27 p in
+        no-page b at (omega (arith, ltb-true (length b) (at + sizeOf s) q, length-drop at b))
+    by false p false false r false q k = none-some (sym (rw q at k))

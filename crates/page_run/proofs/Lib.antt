@@ -1,4 +1,4 @@
-mod Ends
+pub mod Ends
 mod Turns
 mod Feeding
 mod Checksums

@@ -1,5 +1,4 @@
 -- `entry_lines::put_again` meets its contract. Assumes nothing.
-use native.Mathlib.Omega.{arith}
 use borrow.Author.Needs.{needs}
 use Rattle.entry_lines.proofs.Laying.{laid-again}
 use Rattle.entry_lines.proofs.put_again.Statement.{statement}
