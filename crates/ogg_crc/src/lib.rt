@@ -180,8 +180,8 @@ pub fn checksum(s: &[u8]) -> u32
     }
 }
 
-// The register after the first 26 bytes of a page, as `update` goes through those before the field and through the field;
-// with the sizes of the blocks written out, they take a third of the time. It is what short pages wait for.
+// The register after the first 26 bytes of a page, as `update` goes through those before the field and through the field,
+// with the sizes of the blocks written out, so that the compiler needs no loop for them. Short pages wait for it.
 fn head_checksum(tables: &[u32; 4096], page: &[u8]) -> u32
     requires { ⌜ 26 ≤ length (now page) ⌝ }
     ensures { λ x. ⌜ x ≡ sliced (entryIn (now (tables .entry))) (sliced (entryIn (now (tables .entry))) 0 (take 22 (now (page .entry)))) (replicate 4 0) ⌝ }
