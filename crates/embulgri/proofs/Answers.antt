@@ -23,6 +23,7 @@ use Rattle.page_writer.specs.declared.PageWritten.{PageWritten}
 use Rattle.page_writer.specs.declared.PageWritten.the-variants.{Bytes as PageBytes, Refused as PageRefused}
 use Rattle.page_writer.specs.Writing.{writeChecks, writeTold as pageTold, writeOut as pageOut, toldWritten as toldPage, Wrote as WrotePage}
 use Rattle.head_fields.specs.declared.Head.{Head}
+use Rattle.head_numbers.specs.Numbers.{headNumbers, fitting, headFrom}
 use Rattle.opus_head.specs.declared.HeadRead.{HeadRead}
 use Rattle.opus_head.specs.declared.Verdict.{Verdict}
 use Rattle.opus_head.specs.declared.Verdict.the-variants.{Right, Refused}
@@ -33,7 +34,7 @@ use Rattle.head_writer.specs.Writing.{toldWritten as toldHead, Wrote as WroteHe
 use Rattle.tags_writer.specs.declared.TagsWritten.{TagsWritten}
 use Rattle.tags_writer.specs.declared.TagsWritten.the-variants.{Bytes as TagsBytes, Refused as TagsRefused}
 use Rattle.tags_writer.specs.Writing.{toldWritten as toldTags, Wrote as WroteTags}
-use Rattle.embulgri.specs.Answers.{Answered, Wrote, pageNumbers, PageIn, PageOut, headNumbers, fitting, headFrom, HeadIn, headTold, headOut, HeadLaid, TagsOut}
+use Rattle.embulgri.specs.Answers.{Answered, Wrote, pageNumbers, PageIn, PageOut, HeadIn, headTold, headOut, HeadLaid, TagsOut}
 
 -- a call with one output, by what the code's answer tells
 module _ {A : Type 0} {told by-code : Told A} (same : by-code ≡ told) {old : A} where

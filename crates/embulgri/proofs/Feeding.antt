@@ -12,7 +12,8 @@ use Rattle.state_numbers.specs.Numbers.{numbersOf}
 use Rattle.reader.specs.declared.StateOpened.{StateOpened}
 use Rattle.reader.specs.declared.StateFed.{StateFed}
 use Rattle.reader.specs.Numbers.{openedNumber, numbersOpened, StateOpenedIs, toldState, numbersAfter, StateFedIs}
-use Rattle.embulgri.specs.Answers.{stored, fitting, headFrom}
+use Rattle.head_numbers.specs.Numbers.{fitting, headFrom}
+use Rattle.embulgri.specs.Answers.{stored}
 use Rattle.embulgri.specs.Feeding.{openTold, OpenedIn, pageRecord, fedOf, FedIn}
 
 -- ---- what is told, turned into something else

@@ -18,6 +18,7 @@ use Rattle.ogg_page.specs.Reading.{readPage}
 use Rattle.page_writer.specs.Writing.{writeTold, writeOut}
 use Rattle.opus_packet.specs.Streams.{readPacket}
 use Rattle.head_fields.specs.declared.Head.{Head}
+use Rattle.head_numbers.specs.Numbers.{headNumbers, fitting, headFrom}
 use Rattle.opus_head.specs.Reading.{readHead}
 use Rattle.head_writer.specs.Writing as headWriting
 use Rattle.opus_tags.specs.declared.Part.{Part}
@@ -61,36 +62,6 @@ abbrev pub PacketIn : Bytes → ℕ → ℕ → ℕ → ℕ → Type 0
 PacketIn p streams number old end = Answered (readPacket p streams) number old end
 
 -- ---- identification headers
-
--- version, channels, pre-skip, input rate, gain in 16 bits, family, streams, coupled
-abbrev pub headNumbers : Head → List ℕ
-headNumbers h =
-    h .version ∷ h .channels ∷ h .preskip ∷ h .rate ∷ ofZ w16 (h .gain) ∷ h .family ∷ h .streams ∷ h .coupled ∷ []
-
--- what each number has to be below, by its field's width
-abbrev pub limits : List ℕ
-limits = 256 ∷ 256 ∷ 65536 ∷ 4294967296 ∷ 65536 ∷ 256 ∷ 256 ∷ 256 ∷ []
-
-unfoldable pub allBelow : List ℕ → List ℕ → Bool
-allBelow [] f = true
-allBelow (w ∷ ws) f = ltb (getD f 0 0) w && allBelow ws (drop 1 f)
-
-unfoldable pub fitting : List ℕ → Bool
-fitting f = allBelow limits f
-
--- the record of such numbers and a mapping
-unfoldable pub headFrom : List ℕ → Bytes → Head
-headFrom f m = record {
-  version = getD f 0 0;
-  channels = getD f 1 0;
-  preskip = getD f 2 0;
-  rate = getD f 3 0;
-  gain = toZ w16 (getD f 4 0);
-  family = getD f 5 0;
-  streams = getD f 6 0;
-  coupled = getD f 7 0;
-  mapping = m;
-}
 
 -- reading: the returned number, the eight numbers and the mapping's places from `old` to `end`
 pub record HeadIn (p : Bytes) (number : ℕ) (oldNumbers endNumbers oldPlaces endPlaces : List ℕ) : Type 0 where

@@ -11,7 +11,8 @@ use Rattle.stream.specs.declared.Counts.{Counts}
 use Rattle.stream.specs.Readings.{readings}
 use Rattle.stream.specs.Feed.{Reader, openPartWay, Lent, Taken, Fed, feed}
 use Rattle.state_numbers.specs.Numbers.{numbersOf, readerFrom}
-use Rattle.embulgri.specs.Answers.{stored, Answered, fitting, headFrom}
+use Rattle.head_numbers.specs.Numbers.{fitting, headFrom}
+use Rattle.embulgri.specs.Answers.{stored, Answered}
 
 -- ---- opening part way
 

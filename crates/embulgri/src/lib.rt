@@ -1,13 +1,11 @@
 // The library for programs in C, Rust and Python: numbers and slices only. include/embulgri.h declares these functions.
 ghost use mathlib.Core.Path.{_≡_};
-ghost use mathlib.Core.Bool.{true};
 ghost use Rattle.ogg_crc.specs.Crc.{crc};
 ghost use Rattle.opus_tags.specs.Reading.{toldPart};
 ghost use Rattle.stream.specs.Feed.{start as started, lentOf};
 ghost use Rattle.state_numbers.specs.Numbers.{numbersOf};
-ghost use Rattle.embulgri.specs.Answers.{PageIn, PageOut, PacketIn, HeadIn, HeadLaid, headNumbers, fitting, headFrom, TagsIn, PartIn, VendorIn, CommentIn, GainIn, TagsOut, ClockAfter};
+ghost use Rattle.embulgri.specs.Answers.{PageIn, PageOut, PacketIn, HeadIn, HeadLaid, TagsIn, PartIn, VendorIn, CommentIn, GainIn, TagsOut, ClockAfter};
 ghost use Rattle.embulgri.specs.Feeding.{OpenedIn, pageRecord, FedIn};
-use head_fields::Head;
 use head_writer::HeadWritten;
 use ogg_page::PageHeader;
 use ogg_page::PageRead;
@@ -103,23 +101,6 @@ pub extern "C" fn embulgri_packet_read(packet: &[u8], streams: u64, samples: &mu
     }
 }
 
-// Version, channels, pre-skip, input rate, gain in 16 bits, family, streams, coupled.
-fn head_numbers(h: Head) -> [u64; 8]
-    ensures { λ r. ⌜ r ≡ headNumbers h ⌝ }
-{
-    let gain = h.gain;
-    [
-        h.version as u64,
-        h.channels as u64,
-        h.preskip as u64,
-        h.rate as u64,
-        twos_complement::unsigned16(gain) as u64,
-        h.family as u64,
-        h.streams as u64,
-        h.coupled as u64,
-    ]
-}
-
 // Into `fields`: the eight numbers. Into `mapping`: its 255 places.
 #[no_mangle]
 pub extern "C" fn embulgri_head_read(
@@ -134,46 +115,12 @@ pub extern "C" fn embulgri_head_read(
     let head = read.head;
     match verdict {
         Verdict::Right => {
-            *fields = head_numbers(head);
+            *fields = head_numbers::numbers_of(head);
             let places = head.mapping;
             *mapping = places;
             0
         }
         Verdict::Refused(why) => refusal::number(why) as u32,
-    }
-}
-
-// Whether each of the eight numbers fits its field's width.
-fn numbers_fit(fields: &[u64; 8]) -> bool
-    ensures { λ r. ⌜ r ≡ fitting (now (fields .entry)) ⌝ }
-{
-    let limits = [256u64, 256, 65536, 4294967296, 65536, 256, 256, 256];
-    let mut i = 0;
-    while i < 8 {
-        if fields[i] >= limits[i] {
-            return false;
-        }
-        i += 1;
-    }
-    true
-}
-
-fn head_from(fields: &[u64; 8], mapping: &[u8; 255]) -> Head
-    requires { ⌜ fitting (now fields) ≡ true ⌝ }
-    ensures { λ r. ⌜ r ≡ headFrom (now (fields .entry)) (now (mapping .entry)) ⌝ }
-{
-    let gain = twos_complement::signed16(fields[4] as u16);
-    let places = *mapping;
-    Head {
-        version: fields[0] as u8,
-        channels: fields[1] as u8,
-        preskip: fields[2] as u16,
-        rate: fields[3] as u32,
-        gain,
-        family: fields[5] as u8,
-        streams: fields[6] as u8,
-        coupled: fields[7] as u8,
-        mapping: places,
     }
 }
 
@@ -186,10 +133,10 @@ pub extern "C" fn embulgri_head_write(
 ) -> u32
     ensures { λ r. ⌜ HeadLaid (now (fields .entry)) (now (mapping .entry)) r (now (out .entry)) (now (out .exit)) (now (written .entry)) (now (written .exit)) ⌝ }
 {
-    if !numbers_fit(fields) {
+    if !head_numbers::numbers_fit(fields) {
         return refusal::number(Refusal::UnfitFields) as u32;
     }
-    let head = head_from(fields, mapping);
+    let head = head_numbers::head_of(fields, mapping);
     let wrote = head_writer::write_head(head, out);
     match wrote {
         HeadWritten::Bytes(n) => {
@@ -314,10 +261,10 @@ pub extern "C" fn embulgri_open(
 ) -> u32
     ensures { λ r. ⌜ OpenedIn (now (fields .entry)) (now (mapping .entry)) r (now (state .entry)) (now (state .exit)) ⌝ }
 {
-    if !numbers_fit(fields) {
+    if !head_numbers::numbers_fit(fields) {
         return refusal::number(Refusal::UnfitFields) as u32;
     }
-    match reader::open_state(head_from(fields, mapping), state) {
+    match reader::open_state(head_numbers::head_of(fields, mapping), state) {
         StateOpened::Done => 0,
         StateOpened::Refused(why) => refusal::number(why) as u32,
     }

@@ -119,44 +119,26 @@ fn fed_page(p: Progress, fed: Fed, body: &[u8]) -> Progress {
     }
 }
 
-fn feed_page(
-    p: Progress,
-    page: &[u8],
-    carry: &mut [u8],
-    ends: &mut [u64],
-    sizes: &mut [u64],
-    kept: &mut [u64],
-) -> Progress {
+// Feeding asks for lists with room for a page's packets, but no packet of a header is listed.
+fn feed_page(p: Progress, page: &[u8], carry: &mut [u8]) -> Progress {
     let reader = p.reader;
-    let fed = reader::feed(reader, page, carry, ends, sizes, kept);
+    let mut ends = [0u64; 255];
+    let mut sizes = [0u64; 255];
+    let mut kept = [0u64; 255];
+    let fed = reader::feed(reader, page, carry, &mut ends, &mut sizes, &mut kept);
     fed_page(p, fed, ogg_page::body_of(page))
 }
 
 // At the end of the input: bytes of a page that is not whole are fed as they stand.
-fn feed_rest(
-    p: Progress,
-    rest: &[u8],
-    carry: &mut [u8],
-    ends: &mut [u64],
-    sizes: &mut [u64],
-    kept: &mut [u64],
-) -> Progress {
+fn feed_rest(p: Progress, rest: &[u8], carry: &mut [u8]) -> Progress {
     if rest.len() == 0 {
         return stopped(p, Stage::Cut);
     }
-    feed_page(p, rest, carry, ends, sizes, kept)
+    feed_page(p, rest, carry)
 }
 
 // Reads on where no page is whole.
-fn read_turn(
-    p: Progress,
-    n: usize,
-    buffer: &mut [u8],
-    carry: &mut [u8],
-    ends: &mut [u64],
-    sizes: &mut [u64],
-    kept: &mut [u64],
-) -> State {
+fn read_turn(p: Progress, n: usize, buffer: &mut [u8], carry: &mut [u8]) -> State {
     match read_behind(buffer, n) {
         Got::Bytes(end) => State {
             progress: p,
@@ -164,7 +146,7 @@ fn read_turn(
             end,
         },
         Got::Nothing => State {
-            progress: feed_rest(p, octets::part_of(buffer, 0, n), carry, ends, sizes, kept),
+            progress: feed_rest(p, octets::part_of(buffer, 0, n), carry),
             start: 0,
             end: 0,
         },
@@ -177,31 +159,17 @@ fn read_turn(
 }
 
 // Feeds one page, or reads on.
-fn turn(
-    s: State,
-    buffer: &mut [u8],
-    carry: &mut [u8],
-    ends: &mut [u64],
-    sizes: &mut [u64],
-    kept: &mut [u64],
-) -> State {
+fn turn(s: State, buffer: &mut [u8], carry: &mut [u8]) -> State {
     let p = s.progress;
     let start = s.start;
     let end = s.end;
     let last = page_end(buffer, start, end);
     if last <= start {
         let n = buffers::move_down(buffer, start, end);
-        return read_turn(p, n, buffer, carry, ends, sizes, kept);
+        return read_turn(p, n, buffer, carry);
     }
     State {
-        progress: feed_page(
-            p,
-            octets::part_of(buffer, start, last - start),
-            carry,
-            ends,
-            sizes,
-            kept,
-        ),
+        progress: feed_page(p, octets::part_of(buffer, start, last - start), carry),
         start: last,
         end,
     }
@@ -235,17 +203,11 @@ fn begin() -> State {
 }
 
 // Reads and feeds until the stage is another.
-pub(crate) fn run(
-    buffer: &mut [u8],
-    carry: &mut [u8],
-    ends: &mut [u64],
-    sizes: &mut [u64],
-    kept: &mut [u64],
-) -> Progress {
+pub(crate) fn run(buffer: &mut [u8], carry: &mut [u8]) -> Progress {
     let mut turns = u64::MAX;
     let mut s = begin();
     while turns > 0 {
-        s = turn(s, buffer, carry, ends, sizes, kept);
+        s = turn(s, buffer, carry);
         let p = s.progress;
         if !goes_on(p) {
             return p;

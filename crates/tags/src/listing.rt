@@ -76,31 +76,40 @@ fn list_comments(first: Listing, n: usize, packet: &[u8], out: &mut [u8]) -> Lis
     l
 }
 
-// The output buffer has room for any one line: a packet has at most 61,440 bytes, and an escape four for each.
-pub(crate) fn list(head: Head, packet: &[u8]) {
-    let mut out = [0u8; 262144];
+// Both headers, up to the comments: how many bytes they fill.
+fn put_headers(out: &mut [u8], head: Head, packet: &[u8]) -> usize {
     let vendor = part_at(packet, 8);
-    let n = count_of(packet);
-    let at = put_format(&mut out, head);
-    let at = tag_lines::put_gain(&mut out, at, head.gain);
-    let at = put_streams(&mut out, at, head);
-    let at = tag_lines::put_text(
-        &mut out,
+    let at = put_format(out, head);
+    let at = tag_lines::put_gain(out, at, head.gain);
+    let at = put_streams(out, at, head);
+    tag_lines::put_text(
+        out,
         at,
         b"vendor ",
         octets::part_of(packet, vendor.start, vendor.size),
         b"\n",
-    );
-    let filled = tag_lines::put_number(&mut out, at, b"comments ", n as u64);
+    )
+}
+
+fn list_in(out: &mut [u8], head: Head, packet: &[u8]) {
+    let n = count_of(packet);
+    let at = put_headers(out, head, packet);
+    let filled = tag_lines::put_number(out, at, b"comments ", n as u64);
     let first = Listing {
         place: opus_tags::first_comment(packet),
         filled,
         goes_on: true,
     };
-    let l = list_comments(first, n, packet, &mut out);
+    let l = list_comments(first, n, packet, out);
     if l.goes_on {
-        write(&out, l.filled);
+        write(out, l.filled);
     }
+}
+
+// The output buffer has room for any one line: a packet has at most 61,440 bytes, and an escape four for each.
+pub(crate) fn list(head: Head, packet: &[u8]) {
+    let mut out = [0u8; 262144];
+    list_in(&mut out, head, packet);
 }
 
 pub(crate) fn list_refused(number: u8, page: u64) {

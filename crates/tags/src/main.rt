@@ -2,6 +2,7 @@
 // each comment. Where a page of them is refused, the listing is one line with the refusal's number and the page's.
 //
 // Sums that could wrap only past the end of all memory are written as wrapping ones.
+use feeding::Progress;
 use feeding::Stage;
 
 mod feeding;
@@ -20,21 +21,22 @@ pub(crate) fn write(out: &[u8], n: usize) -> bool {
     written
 }
 
-// The input buffer has room for a page, of 65,307 bytes at most, and for a read as long behind it.
-fn main() {
-    let mut buffer = [0u8; 131072];
-    let mut carry = [0u8; 61440];
-    let mut ends = [0u64; 255];
-    let mut sizes = [0u64; 255];
-    let mut kept = [0u64; 255];
-    let p = feeding::run(&mut buffer, &mut carry, &mut ends, &mut sizes, &mut kept);
+fn tell(p: Progress, carry: &[u8]) {
     let head = p.head;
     let stage = p.stage;
     match stage {
         Stage::Feeding => say(b"tags: the input does not end\n"),
-        Stage::Complete(size) => listing::list(head, octets::part_of(&carry, 0, size)),
+        Stage::Complete(size) => listing::list(head, octets::part_of(carry, 0, size)),
         Stage::Refused(number) => listing::list_refused(number, p.pages),
         Stage::Cut => say(b"tags: the input ends before the comment header\n"),
         Stage::Unread => {}
     }
+}
+
+// The input buffer has room for a page, of 65,307 bytes at most, and for a read as long behind it.
+fn main() {
+    let mut buffer = [0u8; 131072];
+    let mut carry = [0u8; 61440];
+    let p = feeding::run(&mut buffer, &mut carry);
+    tell(p, &carry);
 }

@@ -10,7 +10,7 @@ returns c =
     let told = c .before .before in
     let call = told .before .before .before in
     let a = call .before .before .args in
-    head-read (now (a .packet)) (now (a .fields)) (now (a .mapping)) (call .read-head .result) (call .read-head .ensures) (told .enum-told .given .1) (c .before .head-numbers .ensures)
+    head-read (now (a .packet)) (now (a .fields)) (now (a .mapping)) (call .read-head .result) (call .read-head .ensures) (told .enum-told .given .1) (c .before .numbers-of .ensures)
 
 returns-2 : tie.Need-returns-2
 returns-2 c =

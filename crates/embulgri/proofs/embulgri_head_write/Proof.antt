@@ -12,9 +12,6 @@ returns c =
     rw (c .number .ensures)
     (numbers-unfit (now (a .fields)) (now (a .mapping)) (now (a .out)) (now (a .written)) (failed (c .before .before .numbers-fit .ensures) (c .before .if1 .taken)))
 
-head-from-requires : tie.Need-head-from-requires
-head-from-requires c κs = held (c .before .numbers-fit .ensures) (c .if1 .left)
-
 returns-2 : tie.Need-returns-2
 returns-2 c =
     let arm = c .before in
@@ -22,7 +19,7 @@ returns-2 c =
     let made = call .before .before in
     let first = made .before in
     let a = first .before .before .before .args in
-    head-written (now (a .fields)) (now (a .mapping)) (now (a .out)) (now (a .written)) (made .head-from .ensures)
+    head-written (now (a .fields)) (now (a .mapping)) (now (a .out)) (now (a .written)) (made .head-of .ensures)
     (held (first .before .numbers-fit .ensures) (first .if1 .left)) (call .write-head .ensures) (arm .wrote .given .1)
 
 returns-3 : tie.Need-returns-3
@@ -32,13 +29,13 @@ returns-3 c =
     let made = call .before .before in
     let first = made .before in
     let a = first .before .before .before .args in
-    head-unwritten (now (a .fields)) (now (a .mapping)) (now (a .out)) (now (a .written)) (made .head-from .ensures)
+    head-unwritten (now (a .fields)) (now (a .mapping)) (now (a .out)) (now (a .written)) (made .head-of .ensures)
     (held (first .before .numbers-fit .ensures) (first .if1 .left)) (call .write-head .ensures) (arm .wrote2 .given .1) (c .number2 .ensures)
 
 pub embulgri-head-write-spec : {M : Type 1} → statement M
 embulgri-head-write-spec =
     tie.close
     (tie.spec
-    (λ c κs. search needs) (λ c κs. search needs) (λ c. search needs) returns head-from-requires
+    (λ c κs. search needs) (λ c κs. search needs) (λ c. search needs) returns (λ c κs. search needs)
     (λ c κs. search needs) (λ c. search needs) (λ c. search needs) (λ c κs. search needs) (λ c. search needs)
     (λ c. search needs) returns-2 (λ c. search needs) returns-3)

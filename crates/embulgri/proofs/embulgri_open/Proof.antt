@@ -14,16 +14,13 @@ returns c =
     rw (c .number .ensures)
     (open-unfit (now (a .fields)) (now (a .mapping)) (now (a .state)) (failed (c .before .before .numbers-fit .ensures) (c .before .if1 .taken)))
 
-head-from-requires : tie.Need-head-from-requires
-head-from-requires c κs = held (c .before .numbers-fit .ensures) (c .if1 .left)
-
 returns-2 : tie.Need-returns-2
 returns-2 c =
     let call = c .before .before in
     let made = call .before .before in
     let first = made .before in
     let a = first .before .before .args in
-    open-fit (now (a .fields)) (now (a .mapping)) (now (a .state)) (made .head-from .ensures) (held (first .before .numbers-fit .ensures) (first .if1 .left))
+    open-fit (now (a .fields)) (now (a .mapping)) (now (a .state)) (made .head-of .ensures) (held (first .before .numbers-fit .ensures) (first .if1 .left))
     (call .open-state .ensures) (sym (ap openedNumber (c .enum-told .given .1)))
 
 returns-3 : tie.Need-returns-3
@@ -33,12 +30,12 @@ returns-3 c =
     let made = call .before .before in
     let first = made .before in
     let a = first .before .before .args in
-    open-fit (now (a .fields)) (now (a .mapping)) (now (a .state)) (made .head-from .ensures) (held (first .before .numbers-fit .ensures) (first .if1 .left))
+    open-fit (now (a .fields)) (now (a .mapping)) (now (a .state)) (made .head-of .ensures) (held (first .before .numbers-fit .ensures) (first .if1 .left))
     (call .open-state .ensures) (c .number2 .ensures ∙ sym (ap openedNumber (arm .why .given .1)))
 
 pub embulgri-open-spec : {M : Type 1} → statement M
 embulgri-open-spec =
     tie.close
     (tie.spec
-    (λ c κs. search needs) (λ c κs. search needs) (λ c. search needs) returns head-from-requires (λ c κs. search needs)
+    (λ c κs. search needs) (λ c κs. search needs) (λ c. search needs) returns (λ c κs. search needs) (λ c κs. search needs)
     (λ c. search needs) (λ c. search needs) (λ c κs. search needs) (λ c. search needs) returns-2 returns-3)

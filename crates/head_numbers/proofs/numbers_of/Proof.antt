@@ -1,10 +1,10 @@
--- `embulgri::head_numbers` meets its contract. Assumes nothing.
+-- `head_numbers::numbers_of` meets its contract. Assumes nothing.
 use mathlib.Core.Path.{_≡_, ap, _∙_}
 use borrow.Author.Needs.{needs}
 use mir.Syntax.{w16}
 use mir.Val.{toZ, ofZ}
-use Rattle.embulgri.proofs.head_numbers.Statement.{statement}
-use Rattle.embulgri.proofs.head_numbers.Tie as tie
+use Rattle.head_numbers.proofs.numbers_of.Statement.{statement}
+use Rattle.head_numbers.proofs.numbers_of.Tie as tie
 
 returns : tie.Need-returns
 returns c =
@@ -16,8 +16,8 @@ returns c =
     let kept : toZ w16 (ofZ w16 (h .gain)) ≡ h .gain = search needs in
     rw (bits .unsigned16 .ensures ∙ ap (ofZ w16) kept)
 
-pub head-numbers-spec : {M : Type 1} → statement M
-head-numbers-spec =
+pub numbers-of-spec : {M : Type 1} → statement M
+numbers-of-spec =
     tie.close
     (tie.spec
     (λ c. search needs) (λ c. search needs) (λ c. search needs) (λ c. search needs) (λ c κs. search needs)

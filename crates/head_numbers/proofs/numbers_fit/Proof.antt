@@ -1,14 +1,14 @@
--- `embulgri::numbers_fit` meets its contract. The loop's invariant: what is left decides. Assumes nothing.
+-- `head_numbers::numbers_fit` meets its contract. The loop's invariant: what is left decides. Assumes nothing.
 use mathlib.Core.Path.{_≡_, refl, sym, _∙_}
 use mathlib.Core.List.{[]}
 use Prim.Native.Nat.{_-_, _≤_}
 use native.Mathlib.Omega.{arith}
 use denote.Ref.{now}
 use lib.ListN.{drop, drop-of-length-le}
-use Rattle.embulgri.specs.Answers.{limits as bounds, allBelow, fitting}
-use Rattle.embulgri.proofs.Numbers.{below-stop, below-next}
-use Rattle.embulgri.proofs.numbers_fit.Statement.{statement}
-use Rattle.embulgri.proofs.numbers_fit.Tie as tie
+use Rattle.head_numbers.specs.Numbers.{limits as bounds, allBelow, fitting}
+use Rattle.head_numbers.proofs.Below.{below-stop, below-next}
+use Rattle.head_numbers.proofs.numbers_fit.Statement.{statement}
+use Rattle.head_numbers.proofs.numbers_fit.Tie as tie
 
 abbrev Inv-loop : tie.InvT-loop
 Inv-loop fields limits i₀ i = (allBelow (drop i bounds) (drop i fields) ≡ fitting fields) × (i ≤ 8)
