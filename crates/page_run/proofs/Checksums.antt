@@ -16,7 +16,8 @@ use Rattle.stream.specs.State.{State, expecting}
 use Rattle.stream.specs.Packets.{Seen, seen, lengthsOf}
 use Rattle.stream.specs.Rules.{packetChecks, timeChecks, checksOn, startOn, nextOn}
 use Rattle.stream.specs.Feed.{Reader, view, entriesOn, countsOn, skipOn, Lent, isShort, fedBy, feed}
-use Rattle.page_run.specs.Run.{endAt, isFull, past, Reached, Turn, goes, stops, full, fedTo, turnTo, turn, follow, runs, started, feedPages}
+use Rattle.page_end.specs.End.{endAt}
+use Rattle.page_run.specs.Run.{isFull, past, Reached, Turn, goes, stops, full, fedTo, turnTo, turn, follow, runs, started, feedPages}
 
 module _ (c d : Bytes → ℕ) where
   same-packets : (n : ℕ) (bs : List Bytes) → packetChecks (readings c) n bs ≡ packetChecks (readings d) n bs

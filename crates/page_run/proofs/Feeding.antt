@@ -13,8 +13,9 @@ use Rattle.stream.specs.declared.Counts.{Counts}
 use Rattle.stream.specs.Readings.{Readings}
 use Rattle.stream.specs.Feed.{Reader as Known, Lent, lentOf, Taken, FedIs, feed}
 use Rattle.reader.specs.Answers.{knownAs}
+use Rattle.page_end.specs.End.{endAt}
 use Rattle.page_run.specs.declared.Progress.{Progress}
-use Rattle.page_run.specs.Run.{endAt, isFull, past, whole, cut, full, stops, after, turn, Fits}
+use Rattle.page_run.specs.Run.{isFull, past, whole, cut, full, stops, after, turn, Fits}
 use Rattle.page_run.specs.Answers.{reached}
 use Rattle.page_run.proofs.Turns.{shows}
 

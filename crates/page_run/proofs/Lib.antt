@@ -1,4 +1,3 @@
-pub mod Ends
 mod Turns
 mod Feeding
 mod Checksums

@@ -14,8 +14,9 @@ use Rattle.stream.specs.Readings.{Readings}
 use Rattle.stream.specs.Feed.{Entry, Lent, Taken, Fed, feed}
 use Rattle.stream.specs.Statements.{HasFirst, Shows}
 use Rattle.stream.proofs.Lists.{accepted-shows}
-use Rattle.page_run.specs.Run.{endAt, isFull, past, whole, Reached, Why, Turn, goes, stops, full, after, turnTo, turn, runs, follow, Fits}
-use Rattle.page_run.proofs.Ends.{end-inside}
+use Rattle.page_end.specs.End.{endAt}
+use Rattle.page_end.proofs.Ends.{end-inside}
+use Rattle.page_run.specs.Run.{isFull, past, whole, Reached, Why, Turn, goes, stops, full, after, turnTo, turn, runs, follow, Fits}
 
 -- stopping is not going on
 stops-goes : {A : Type 0} {why : Why} {m n : Lent} {a : Reached} → stops why m ≡ goes a n → A

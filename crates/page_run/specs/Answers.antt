@@ -1,6 +1,4 @@
 -- What the code of a run answers. Assumes nothing.
-use Prim.Native.Nat.{ℕ}
-use mathlib.Core.Option.{Option, none, some}
 use Rattle.refusal.specs.Numbers.{numberOf}
 use Rattle.stream.specs.Feed.{Lent}
 use Rattle.reader.specs.Answers.{knownAs}
@@ -8,15 +6,9 @@ use Rattle.page_run.specs.declared.Progress.{Progress}
 use Rattle.page_run.specs.declared.Stop.{Stop}
 use Rattle.page_run.specs.declared.Stop.the-variants.{Refused, Cut, Full}
 use Rattle.page_run.specs.declared.PagesFed.{PagesFed}
-use Rattle.page_run.specs.declared.End.{End}
-use Rattle.page_run.specs.declared.End.the-variants.{At, Cut as NoEnd}
 use Rattle.page_run.specs.declared.Turn.{Turn}
 use Rattle.page_run.specs.declared.Turn.the-variants.{Goes, Stops}
 use Rattle.page_run.specs.Run.{Reached, Why, refused, cut, full, Turn as Outcome, goes, stops, Ended}
-
-abbrev pub foundEnd : End → Option ℕ
-foundEnd (At e) = some e
-foundEnd NoEnd = none
 
 abbrev pub reached : Progress → Reached
 reached p = record { reader = knownAs (p .reader); bytes = p .bytes; pages = p .pages; packets = p .packets; sums = p .sums }

@@ -10,24 +10,11 @@ use lib.ListN.{length, take, drop}
 use Rattle.octets.specs.Pick.{pick}
 use Rattle.octets.specs.Octets.{Bytes}
 use Rattle.refusal.specs.Told.{Told, gives, refuses}
-use Rattle.ogg_page.specs.declared.Extent.{Extent}
-use Rattle.ogg_page.specs.declared.Extent.the-variants.{Ends, Short, NoPage}
-use Rattle.ogg_page.specs.Extent.{pageExtent}
+use Rattle.page_end.specs.End.{endAt}
 use Rattle.stream.specs.declared.Counts.{Counts}
 use Rattle.stream.specs.Readings.{Readings}
 use Rattle.stream.specs.Feed.{Reader, Lent, listMax, Taken, Fed, feed}
 use Rattle.page_run.specs.declared.Sums.{Sums}
-
--- ---- the next page
-
--- none: it is not whole in the buffer, of n bytes; bytes that begin no page are taken as they stand, to the buffer's end
-abbrev pub endIn : Extent → ℕ → Option ℕ
-endIn (Ends e) n = pick (ltb n e) none (some e)
-endIn Short n = none
-endIn NoPage n = some n
-
-unfoldable pub endAt : Bytes → ℕ → Option ℕ
-endAt b at = endIn (pageExtent b at) (length b)
 
 -- ---- the lent memory
 

@@ -10,9 +10,9 @@ ghost use Rattle.ogg_crc.specs.Sliced.{pageSliced};
 ghost use Rattle.stream.specs.Readings.{readings};
 ghost use Rattle.stream.specs.Feed.{lentOf};
 ghost use Rattle.reader.specs.Answers.{knownAs};
-ghost use Rattle.page_run.specs.Run.{endAt, added, Fits, turn as turnBy, feedPages};
-ghost use Rattle.page_run.specs.Answers.{foundEnd, reached, toldTurn, toldRun};
-use ogg_page::Extent;
+ghost use Rattle.page_run.specs.Run.{added, Fits, turn as turnBy, feedPages};
+ghost use Rattle.page_run.specs.Answers.{reached, toldTurn, toldRun};
+use page_end::End;
 use reader::Fed;
 use reader::Reader;
 use refusal::Refusal;
@@ -49,30 +49,9 @@ pub struct PagesFed {
     pub stop: Stop,
 }
 
-enum End {
-    At(usize),
-    Cut,
-}
-
 enum Turn {
     Goes(Progress),
     Stops(Stop),
-}
-
-// Where the page that starts at `at` ends. Bytes that begin no page are fed as they stand, to be refused.
-fn end_at(buffer: &[u8], at: usize) -> End
-    ensures { λ r. ⌜ foundEnd r ≡ endAt (now (buffer .entry)) at ⌝ }
-{
-    match ogg_page::page_extent(buffer, at) {
-        Extent::Ends(end) => {
-            if end > buffer.len() {
-                return End::Cut;
-            }
-            End::At(end)
-        }
-        Extent::Short => End::Cut,
-        Extent::NoPage => End::At(buffer.len()),
-    }
 }
 
 fn added_to(s: Sums, c: Counts) -> Sums
@@ -113,7 +92,7 @@ fn feed_next(
     if is_full(ends.len() - n, sizes.len() - n, kept.len() - n) {
         return Turn::Stops(Stop::Full);
     }
-    match end_at(buffer, at) {
+    match page_end::end_at(buffer, at) {
         End::Cut => Turn::Stops(Stop::Cut),
         End::At(end) => match reader::feed_with(
             tables,

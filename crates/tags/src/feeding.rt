@@ -1,6 +1,6 @@
 // Reading standard input, and feeding its pages up to the comment header.
 use head_fields::Head;
-use ogg_page::Extent;
+use page_end::End;
 use reader::Fed;
 use reader::Reader;
 
@@ -53,20 +53,6 @@ fn read_behind(buffer: &mut [u8], n: usize) -> Got {
     }
     let more = io::count(got, &buffer[at..]);
     Got::Bytes(std::num::wrapping_add_usize(at, more))
-}
-
-// Where the page ends that starts at `start`; 0 where it is not whole yet. Bytes that begin no page are fed as they stand.
-fn page_end(buffer: &[u8], start: usize, end: usize) -> usize {
-    match ogg_page::page_extent(octets::part_of(buffer, 0, end), start) {
-        Extent::Ends(last) => {
-            if last > end {
-                return 0;
-            }
-            last
-        }
-        Extent::Short => 0,
-        Extent::NoPage => end,
-    }
 }
 
 // ---- feeding
@@ -137,7 +123,7 @@ fn feed_rest(p: Progress, rest: &[u8], carry: &mut [u8]) -> Progress {
     feed_page(p, rest, carry)
 }
 
-// Reads on where no page is whole.
+// Reads on behind the first n bytes.
 fn read_turn(p: Progress, n: usize, buffer: &mut [u8], carry: &mut [u8]) -> State {
     match read_behind(buffer, n) {
         Got::Bytes(end) => State {
@@ -158,20 +144,22 @@ fn read_turn(p: Progress, n: usize, buffer: &mut [u8], carry: &mut [u8]) -> Stat
     }
 }
 
-// Feeds one page, or reads on.
+// Feeds one page, or reads on where it is not whole yet.
 fn turn(s: State, buffer: &mut [u8], carry: &mut [u8]) -> State {
     let p = s.progress;
-    let start = s.start;
-    let end = s.end;
-    let last = page_end(buffer, start, end);
-    if last <= start {
-        let n = buffers::move_down(buffer, start, end);
-        return read_turn(p, n, buffer, carry);
-    }
-    State {
-        progress: feed_page(p, octets::part_of(buffer, start, last - start), carry),
-        start: last,
-        end,
+    match page_end::end_at(octets::part_of(buffer, 0, s.end), s.start) {
+        End::At(last) => {
+            let size = std::num::wrapping_sub_usize(last, s.start);
+            State {
+                progress: feed_page(p, octets::part_of(buffer, s.start, size), carry),
+                start: last,
+                end: s.end,
+            }
+        }
+        End::Cut => {
+            let n = buffers::move_down(buffer, s.start, s.end);
+            read_turn(p, n, buffer, carry)
+        }
     }
 }
 

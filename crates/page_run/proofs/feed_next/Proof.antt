@@ -9,9 +9,9 @@ use denote.Ref.{now}
 use lib.ListN.{length}
 use Rattle.stream.specs.Feed.{Lent, lentOf}
 use Rattle.reader.specs.Answers.{toldFed}
-use Rattle.page_run.specs.Run.{endAt, isFull}
-use Rattle.page_run.specs.Answers.{foundEnd}
-use Rattle.page_run.proofs.Ends.{end-inside}
+use Rattle.page_run.specs.Run.{isFull}
+use Rattle.page_end.specs.End.{endAt, foundEnd}
+use Rattle.page_end.proofs.Ends.{end-inside}
 use Rattle.page_run.proofs.Feeding.{turn-full, turn-cut, turn-told, few-packets}
 use Rattle.page_run.proofs.feed_next.Statement.{statement}
 use Rattle.page_run.proofs.feed_next.Tie as tie

@@ -1,9 +1,9 @@
--- `page_run::end_at` meets its contract. Assumes nothing.
+-- `page_end::end_at` meets its contract. Assumes nothing.
 use borrow.Author.Needs.{needs}
 use borrow.Author.Tests.{lt-ltb, le-ltb}
-use Rattle.page_run.specs.Run.{endAt}
-use Rattle.page_run.proofs.end_at.Statement.{statement}
-use Rattle.page_run.proofs.end_at.Tie as tie
+use Rattle.page_end.specs.End.{endAt}
+use Rattle.page_end.proofs.end_at.Statement.{statement}
+use Rattle.page_end.proofs.end_at.Tie as tie
 
 returns : tie.Need-returns
 unfolding endAt

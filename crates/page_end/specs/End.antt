@@ -1,0 +1,26 @@
+-- Where the page that starts at a place of a buffer ends (document 01, "Page and lacing"). Assumes nothing.
+use Prim.Native.Nat.{ℕ}
+use mathlib.Core.Option.{Option, none, some}
+use lib.Dec.{ltb}
+use lib.ListN.{length}
+use Rattle.octets.specs.Pick.{pick}
+use Rattle.octets.specs.Octets.{Bytes}
+use Rattle.ogg_page.specs.declared.Extent.{Extent}
+use Rattle.ogg_page.specs.declared.Extent.the-variants.{Ends, Short, NoPage}
+use Rattle.ogg_page.specs.Extent.{pageExtent}
+use Rattle.page_end.specs.declared.End.{End}
+use Rattle.page_end.specs.declared.End.the-variants.{At, Cut}
+
+-- none: it is not whole in the buffer, of n bytes; bytes that begin no page are taken as they stand, to the buffer's end
+abbrev pub endIn : Extent → ℕ → Option ℕ
+endIn (Ends e) n = pick (ltb n e) none (some e)
+endIn Short n = none
+endIn NoPage n = some n
+
+unfoldable pub endAt : Bytes → ℕ → Option ℕ
+endAt b at = endIn (pageExtent b at) (length b)
+
+-- what the code's answer tells
+abbrev pub foundEnd : End → Option ℕ
+foundEnd (At e) = some e
+foundEnd Cut = none

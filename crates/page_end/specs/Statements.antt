@@ -1,0 +1,17 @@
+-- What is proved of where a page ends, beside the contract. Assumes nothing.
+use Prim.Native.Nat.{ℕ, _≤_, _<_}
+use mathlib.Core.Path.{_≡_}
+use mathlib.Core.Bool.{false}
+use mathlib.Core.Option.{none, some}
+use lib.ListN.{length, drop}
+use Rattle.octets.specs.Octets.{Bytes}
+use Rattle.ogg_page.specs.Reading.{isOnePage}
+use Rattle.page_end.specs.End.{endAt}
+
+-- the end is behind the start, and inside the buffer
+abbrev pub EndInside : Type 0
+EndInside = (b : Bytes) (at e : ℕ) → endAt b at ≡ some e → (at < e) × (e ≤ length b)
+
+-- the bytes from a cut on are no whole page: fed as they stand, they are refused as no page (3), or after an end (2)
+abbrev pub CutIsNoPage : Type 0
+CutIsNoPage = (b : Bytes) (at : ℕ) → endAt b at ≡ none → isOnePage (drop at b) ≡ false
