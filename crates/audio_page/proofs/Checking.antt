@@ -18,6 +18,7 @@ use Rattle.refusal.specs.Checks.{firstOf}
 use Rattle.refusal.specs.Told.{Told}
 use Rattle.ogg_page.specs.declared.PageHeader.{PageHeader}
 use Rattle.lacing.specs.Lacing.{unfinishedFrom, isBody}
+use Rattle.granule.specs.Judging.{granuleWrong}
 use Rattle.stream.specs.declared.Phase.{Phase}
 use Rattle.stream.specs.declared.Phase.the-variants.{First, Comment, Audio, Opened, Ended as Over}
 use Rattle.stream.specs.declared.Pending.{Pending}
@@ -33,7 +34,7 @@ use Rattle.stream.specs.Feed.{carriedIn, view, Lent, isShort, carryAfter, fedBy
 use Rattle.stream.proofs.Pieces.{or-left, or-right, seen-completes}
 use Rattle.audio_page.specs.declared.AudioFed.the-variants.{Refused}
 use Rattle.audio_page.specs.Audio.{fits, audioChecks, audioFed, audioOn, feedAudio, toldAudio}
-use Rattle.audio_page.specs.Code.{firstFrom, granuleWrong, heldEnd, freshBy, lateChecks, lateFed, Fitting, Sounding, Silent}
+use Rattle.audio_page.specs.Code.{firstFrom, heldEnd, freshBy, lateChecks, lateFed, Fitting, Sounding, Silent}
 use Rattle.audio_page.proofs.Splitting.{Ended, ways, ends-first}
 use Rattle.audio_page.proofs.Seeing.{tail-le, tail-here}
 use Rattle.audio_page.proofs.Feeding.{inAudio, in-audio}

@@ -2,7 +2,7 @@
 -- nothing.
 use Prim.Native.Nat.{ℕ, _+_, _*_, _-_, _%_, _≤_, _<_, _^_}
 use mathlib.Core.Path.{_≡_}
-use mathlib.Core.Bool.{Bool, true, false, not}
+use mathlib.Core.Bool.{Bool, true, false}
 use mathlib.Core.List.{List, [], _∷_, _++_}
 use mathlib.Core.Option.{Option, none, some}
 use lib.Dec.{ltb, eqb}
@@ -46,10 +46,6 @@ further p = record { values = p .values + 1; bytes = p .bytes; ends = p .ends }
 unfoldable pub firstFrom : ℕ → Bytes → Piece
 firstFrom n [] = record { values = 0; bytes = n; ends = false }
 firstFrom n (v ∷ l) = pick (ltb v 255) (record { values = 1; bytes = n + v; ends = true }) (further (firstFrom (n + v) l))
-
--- 11
-abbrev pub granuleWrong : Bool → ℕ → Bool
-granuleWrong done g = pick done (ltb 9223372036854775807 g) (not (eqb g 18446744073709551615))
 
 -- ---- the packets' lengths
 

@@ -11,7 +11,7 @@ ghost use Rattle.stream.specs.Readings.{readings};
 ghost use Rattle.stream.specs.Feed.{readerOf, lentOf, FedIs};
 ghost use Rattle.stream.specs.State.{isAudio};
 ghost use Rattle.audio_page.specs.Audio.{feedAudio, audioOn, toldAudio};
-ghost use Rattle.audio_page.specs.Code.{granuleWrong, freshBy, lateFed, Fitting, Sounding, Silent};
+ghost use Rattle.audio_page.specs.Code.{freshBy, lateFed, Fitting, Sounding, Silent};
 ghost use Rattle.lacing.specs.Lacing.{isBody};
 use granule::Position;
 use lacing_checks::Scan;
@@ -111,17 +111,6 @@ fn feed_silent(
     )
 }
 
-// 11, of an audio page.
-fn wrong_granule(completes: bool, g: u64) -> bool
-    ensures { λ r. ⌜ r ≡ granuleWrong completes g ⌝ }
-{
-    if completes {
-        g > 9223372036854775807
-    } else {
-        g != 18446744073709551615
-    }
-}
-
 // Feeds a page that fits: 9, 11, and what follows.
 fn feed_page(
     core: Core,
@@ -142,7 +131,7 @@ fn feed_page(
     match lacing_checks::scan_page(pending, lacing) {
         Scan::TooLong => AudioFed::Refused(Refusal::PacketTooLong),
         Scan::Rest(rest) => {
-            if wrong_granule(first.ends, h.granule) {
+            if granule::wrong_granule(first.ends, h.granule) {
                 return AudioFed::Refused(Refusal::WrongGranule);
             }
             if first.ends {

@@ -1,10 +1,10 @@
--- The granule position of a page where an audio packet completes (document 01, "Stamps and cuts", "Opened part way",
--- refusals 19, 18 and 17; RFC 7845, 4). G is its granule, D the samples of the packets that complete there. Document 01
--- speaks of a G of at most 2^63 - 1; the same rules stand here for every number. Assumes nothing.
+-- The granule position of an audio page (document 01, "Stamps and cuts", "Opened part way", refusals 11, 19, 18 and 17; RFC
+-- 7845, 4). G is its granule, D the samples of the packets that complete there. Document 01 has 19, 18 and 17 for a G of at
+-- most 2^63 - 1; the same rules stand here for every number. Assumes nothing.
 use Prim.Native.Nat.{ℕ, _+_, _-_, _%_, _^_}
 use mathlib.Core.Bool.{Bool, true, false, not, _&&_}
 use mathlib.Core.List.{List, [], _∷_}
-use lib.Dec.{ltb}
+use lib.Dec.{ltb, eqb}
 use Rattle.octets.specs.Pick.{pick}
 use Rattle.refusal.specs.declared.Refusal.the-variants.{NoPosition, BelowPreSkip, GranuleTooSmall}
 use Rattle.refusal.specs.Checks.{Check, _when_, firstOf}
@@ -26,6 +26,10 @@ abbrev pub isJoined : Position → Bool
 isJoined Unset = false
 isJoined Joined = true
 isJoined (At p) = false
+
+-- 11: G is above 2^63 - 1 where a packet completes; where none does, it is not 2^64 - 1, which stands for none
+abbrev pub granuleWrong : Bool → ℕ → Bool
+granuleWrong done g = pick done (ltb 9223372036854775807 g) (not (eqb g 18446744073709551615))
 
 -- 17: G below D, or below P + D; on a page marked last only G below P
 abbrev pub tooSmall : Position → Bool → ℕ → ℕ → Bool

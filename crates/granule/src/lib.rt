@@ -2,7 +2,7 @@
 ghost use mathlib.Core.Path.{_≡_};
 ghost use Prim.Native.Nat.{_-_, min};
 ghost use Rattle.granule.specs.Samples.{keptOf};
-ghost use Rattle.granule.specs.Judging.{toldJudged, judge as judged, stampOf};
+ghost use Rattle.granule.specs.Judging.{granuleWrong, toldJudged, judge as judged, stampOf};
 ghost use Rattle.granule.specs.Code.{firstPlace};
 ghost use Rattle.granule.specs.declared.Position.the-variants.{Unset as NoneYet, Joined as PartWay, At as Known};
 use refusal::Refusal;
@@ -26,6 +26,17 @@ pub struct Placed {
 pub enum Judged {
     Placed(Placed),
     Refused(Refusal),
+}
+
+// 11, of an audio page, where a packet completes or none.
+pub fn wrong_granule(completes: bool, g: u64) -> bool
+    ensures { λ r. ⌜ r ≡ granuleWrong completes g ⌝ }
+{
+    if completes {
+        g > 9223372036854775807
+    } else {
+        g != 18446744073709551615
+    }
 }
 
 // The difference, 0 where it would be below.
