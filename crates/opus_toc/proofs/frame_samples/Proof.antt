@@ -1,9 +1,9 @@
--- `opus_frames::frame_samples` meets its contract: each arm's tests decide the rule's. Assumes nothing.
+-- `opus_toc::frame_samples` meets its contract: each arm's tests decide the rule's. Assumes nothing.
 use borrow.Author.Needs.{needs}
 use borrow.Author.Tests.{eq-eqb, ne-eqb, lt-ltb, le-ltb}
-use Rattle.opus_frames.specs.Frames.{configSamples, frameSamples}
-use Rattle.opus_frames.proofs.frame_samples.Statement.{statement}
-use Rattle.opus_frames.proofs.frame_samples.Tie as tie
+use Rattle.opus_toc.specs.Toc.{configSamples, frameSamples}
+use Rattle.opus_toc.proofs.frame_samples.Statement.{statement}
+use Rattle.opus_toc.proofs.frame_samples.Tie as tie
 
 returns : tie.Need-returns
 unfolding frameSamples configSamples
