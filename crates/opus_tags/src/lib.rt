@@ -4,8 +4,9 @@ ghost use Rattle.refusal.specs.Told.{retold};
 ghost use Rattle.opus_tags.specs.Layout.{fitsAt, countOf, firstPlace};
 ghost use Rattle.opus_tags.specs.Right.{isTags};
 ghost use Rattle.opus_tags.specs.Reading.{readTags, commentCount, findVendor, findComment, findText, toldCount, toldPart};
-ghost use Rattle.opus_tags.specs.Code.{judged, stepped, walked, begun, isRight, placeIn};
+ghost use Rattle.opus_tags.specs.Code.{stepped, walked, begun, isRight, placeIn};
 use refusal::Refusal;
+use tags_rules::Gains;
 
 // A part of a packet: where it starts, and how many bytes it has.
 pub struct Part {
@@ -23,34 +24,10 @@ pub enum PartRead {
     Refused(Refusal),
 }
 
-// Which of the two gains were seen, up to a comment.
-pub enum Gains {
-    Wrong,
-    Seen(bool, bool),
-}
-
 // A walk over the comments: the place of the next one, and the gains that were seen.
 enum Walk {
     Wrong,
     At(usize, bool, bool),
-}
-
-// One comment more. A gain may stand in one comment only.
-pub fn judge(c: &[u8], track: bool, album: bool) -> Gains
-    ensures { λ r. ⌜ r ≡ judged (now (c .entry)) track album ⌝ }
-{
-    if !opus_comment::right_comment(c) {
-        return Gains::Wrong;
-    }
-    let is_track = opus_comment::is_named(b"R128_TRACK_GAIN", c);
-    let is_album = opus_comment::is_named(b"R128_ALBUM_GAIN", c);
-    if track & is_track {
-        return Gains::Wrong;
-    }
-    if album & is_album {
-        return Gains::Wrong;
-    }
-    Gains::Seen(track | is_track, album | is_album)
 }
 
 // Whether a text behind its length at this place lies inside the packet.
@@ -91,7 +68,7 @@ fn step(b: &[u8], at: usize, track: bool, album: bool) -> Walk
     let size = number_reader::number32(b, at) as usize;
     let start = at + 4;
     let next = start + size;
-    let Gains::Seen(t, a) = judge(octets::part_of(b, start, size), track, album) else {
+    let Gains::Seen(t, a) = tags_rules::judge(octets::part_of(b, start, size), track, album) else {
         return Walk::Wrong;
     };
     Walk::At(next, t, a)

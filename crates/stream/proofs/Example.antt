@@ -28,7 +28,8 @@ use Rattle.head_fields.specs.Right.{allowedChannels, rightIndices, rightStreams
 use Rattle.opus_head.specs.Reading.{isHead}
 use Rattle.utf8.specs.Characters.{utf8From, utf8}
 use Rattle.opus_tags.specs.Layout.{fitsAt, allFit, textsFrom, placeAfter, isLaidOut, tagsOf}
-use Rattle.opus_tags.specs.Right.{allRight, occurrences, rightComments, rightTags, isTags}
+use Rattle.tags_rules.specs.Right.{allRight, occurrences, rightComments}
+use Rattle.opus_tags.specs.Right.{rightTags, isTags}
 use Rattle.opus_toc.specs.Toc.{configSamples, frameSamples}
 use Rattle.opus_frames.specs.Frames.{coded, codedTimes, paddingFrom}
 use Rattle.opus_frames.specs.Packet.{countedShape, shapeOf, parse}

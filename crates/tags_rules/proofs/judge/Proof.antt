@@ -1,11 +1,11 @@
--- `opus_tags::judge` meets its contract. Assumes nothing.
+-- `tags_rules::judge` meets its contract. Assumes nothing.
 use mathlib.Core.Path.{sym}
 use borrow.Author.Needs.{needs}
 use denote.Ref.{now}
 use Rattle.octets.proofs.Tests.{failed, held}
-use Rattle.opus_tags.proofs.Judging.{wrong-comment, second-track, second-album, next-comment}
-use Rattle.opus_tags.proofs.judge.Statement.{statement}
-use Rattle.opus_tags.proofs.judge.Tie as tie
+use Rattle.tags_rules.proofs.Judging.{wrong-comment, second-track, second-album, next-comment}
+use Rattle.tags_rules.proofs.judge.Statement.{statement}
+use Rattle.tags_rules.proofs.judge.Tie as tie
 
 returns : tie.Need-returns
 returns c =

@@ -3,9 +3,9 @@ use mathlib.Core.Path.{_≡_}
 use mathlib.Core.Bool.{Bool, true, false, _&&_, _||_}
 use Rattle.octets.specs.Octets.{Bytes}
 use Rattle.opus_comment.specs.Names.{rightComment, isNamed}
-use Rattle.opus_tags.specs.declared.Gains.the-variants.{Wrong, Seen}
-use Rattle.opus_tags.specs.Right.{trackGain, albumGain}
-use Rattle.opus_tags.specs.Code.{judged}
+use Rattle.tags_rules.specs.declared.Gains.the-variants.{Wrong, Seen}
+use Rattle.tags_rules.specs.Right.{trackGain, albumGain}
+use Rattle.tags_rules.specs.Code.{judged}
 
 module _ (c : Bytes) (t a : Bool) where
   pub wrong-comment : rightComment c ≡ false → judged c t a ≡ Wrong

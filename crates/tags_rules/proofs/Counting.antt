@@ -9,8 +9,8 @@ use lib.Dec.{leb}
 use Rattle.octets.specs.Pick.{pick}
 use Rattle.octets.specs.Octets.{Bytes}
 use Rattle.opus_comment.specs.Names.{rightComment, isNamed}
-use Rattle.opus_tags.specs.Right.{trackGain, albumGain, allRight, occurrences, rightComments}
-use Rattle.opus_tags.specs.Code.{goesOn, rightFrom}
+use Rattle.tags_rules.specs.Right.{trackGain, albumGain, allRight, occurrences, rightComments}
+use Rattle.tags_rules.specs.Code.{goesOn, rightFrom}
 
 pub and-false : (t : Bool) → t && false ≡ false
 and-false true = refl
