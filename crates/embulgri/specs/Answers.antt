@@ -20,7 +20,7 @@ use Rattle.opus_packet.specs.Streams.{readPacket}
 use Rattle.head_fields.specs.declared.Head.{Head}
 use Rattle.opus_head.specs.Reading.{readHead}
 use Rattle.head_writer.specs.Writing as headWriting
-use Rattle.opus_tags.specs.declared.Part.{Part}
+use Rattle.tags_layout.specs.declared.Part.{Part}
 use Rattle.opus_tags.specs.Reading.{readTags, commentCount, findVendor, findComment, readGain}
 use Rattle.tags_writer.specs.Writing as tagsWriting
 use Rattle.old_clock.specs.declared.Clock.{Clock}

@@ -2,7 +2,7 @@
 ghost use mathlib.Core.Path.{_≡_};
 ghost use mathlib.Core.Bool.{true};
 ghost use Rattle.ogg_crc.specs.Crc.{crc};
-ghost use Rattle.opus_tags.specs.Reading.{toldPart};
+ghost use Rattle.tags_layout.specs.Finding.{toldPart};
 ghost use Rattle.stream.specs.Feed.{start as started, lentOf};
 ghost use Rattle.state_numbers.specs.Numbers.{numbersOf};
 ghost use Rattle.embulgri.specs.Answers.{PageIn, PageOut, PacketIn, HeadIn, HeadLaid, headNumbers, fitting, headFrom, TagsIn, PartIn, VendorIn, CommentIn, GainIn, TagsOut, ClockAfter};
@@ -16,13 +16,13 @@ use old_clock::Clock;
 use opus_comment::GainRead;
 use opus_head::Verdict;
 use opus_packet::PacketRead;
-use opus_tags::PartRead;
 use opus_tags::TagsRead;
 use page_writer::PageWritten;
 use reader::StateFed;
 use reader::StateOpened;
 use refusal::Refusal;
 use stream::Counts;
+use tags_layout::PartRead;
 use tags_writer::TagsWritten;
 
 #[no_mangle]

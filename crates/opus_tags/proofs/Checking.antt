@@ -15,9 +15,9 @@ use Rattle.tags_rules.specs.declared.Gains.the-variants.{Wrong as WrongComment,
 use Rattle.tags_rules.specs.Right.{trackGain, albumGain, rightComments}
 use Rattle.tags_rules.specs.Code.{goesOn, judged, rightFrom}
 use Rattle.tags_rules.proofs.Counting.{and-false, right-from}
+use Rattle.tags_layout.specs.Layout.{signature, partAt, nextPlace, fitsAt, bytesOf, allFit, textsFrom, placeAfter, vendorPart, countOf, firstPlace, isLaidOut, tagsOf}
 use Rattle.opus_tags.specs.declared.Walk.{Walk}
 use Rattle.opus_tags.specs.declared.Walk.the-variants.{Wrong, At}
-use Rattle.opus_tags.specs.Layout.{signature, partAt, nextPlace, fitsAt, bytesOf, allFit, textsFrom, placeAfter, vendorPart, countOf, firstPlace, isLaidOut, tagsOf}
 use Rattle.opus_tags.specs.Right.{rightTags, isTags}
 use Rattle.opus_tags.specs.Code.{onward, stepped, walked, startsRight, begun, isRight, placeIn}
 use Rattle.opus_tags.proofs.Walking.{walked-wrong}

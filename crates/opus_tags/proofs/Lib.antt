@@ -1,4 +1,3 @@
-pub mod Fitting
 pub mod Walking
 pub mod Checking
 pub mod Finding

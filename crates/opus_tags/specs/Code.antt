@@ -10,9 +10,9 @@ use Rattle.utf8.specs.Characters.{utf8}
 use Rattle.tags_rules.specs.declared.Gains.{Gains}
 use Rattle.tags_rules.specs.declared.Gains.the-variants.{Wrong as WrongComment, Seen}
 use Rattle.tags_rules.specs.Code.{judged}
+use Rattle.tags_layout.specs.Layout.{signature, partAt, nextPlace, fitsAt, bytesOf, vendorPart, firstPlace}
 use Rattle.opus_tags.specs.declared.Walk.{Walk}
 use Rattle.opus_tags.specs.declared.Walk.the-variants.{Wrong, At}
-use Rattle.opus_tags.specs.Layout.{signature, partAt, nextPlace, fitsAt, bytesOf, vendorPart, firstPlace}
 
 -- one comment on
 abbrev pub onward : Bytes → ℕ → Gains → Walk

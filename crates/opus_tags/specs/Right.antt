@@ -4,7 +4,7 @@ use mathlib.Core.Bool.{Bool, _&&_}
 use Rattle.octets.specs.Octets.{Bytes}
 use Rattle.utf8.specs.Characters.{utf8}
 use Rattle.tags_rules.specs.Right.{rightComments}
-use Rattle.opus_tags.specs.Layout.{Tags, isLaidOut, tagsOf}
+use Rattle.tags_layout.specs.Layout.{Tags, isLaidOut, tagsOf}
 
 unfoldable pub rightTags : Tags → Bool
 rightTags t = utf8 (t .vendor) && rightComments (t .comments)

@@ -27,7 +27,7 @@ use Rattle.opus_head.specs.Fields.{streamsOf, coupledOf, indicesOf, places, hea
 use Rattle.head_fields.specs.Right.{allowedChannels, rightIndices, rightStreams, rightMapping}
 use Rattle.opus_head.specs.Reading.{isHead}
 use Rattle.utf8.specs.Characters.{utf8From, utf8}
-use Rattle.opus_tags.specs.Layout.{fitsAt, allFit, textsFrom, placeAfter, isLaidOut, tagsOf}
+use Rattle.tags_layout.specs.Layout.{fitsAt, allFit, textsFrom, placeAfter, isLaidOut, tagsOf}
 use Rattle.tags_rules.specs.Right.{allRight, occurrences, rightComments}
 use Rattle.opus_tags.specs.Right.{rightTags, isTags}
 use Rattle.opus_toc.specs.Toc.{configSamples, frameSamples}

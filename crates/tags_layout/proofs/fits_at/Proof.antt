@@ -1,11 +1,11 @@
--- `opus_tags::fits_at` meets its contract. Assumes nothing.
+-- `tags_layout::fits_at` meets its contract. Assumes nothing.
 use mathlib.Core.Path.{sym}
 use native.Mathlib.Omega.{arith}
 use borrow.Author.Needs.{needs}
 use denote.Ref.{now}
-use Rattle.opus_tags.proofs.Fitting.{no-length, has-length}
-use Rattle.opus_tags.proofs.fits_at.Statement.{statement}
-use Rattle.opus_tags.proofs.fits_at.Tie as tie
+use Rattle.tags_layout.proofs.Fitting.{no-length, has-length}
+use Rattle.tags_layout.proofs.fits_at.Statement.{statement}
+use Rattle.tags_layout.proofs.fits_at.Tie as tie
 
 returns : tie.Need-returns
 returns c = let a = c .before .before .args in sym (no-length (now (a .b)) (a .at) (omega arith))

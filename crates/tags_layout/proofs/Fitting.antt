@@ -11,8 +11,8 @@ use Rattle.octets.specs.Numbers.{number}
 use Rattle.octets.proofs.Tests.{both}
 use Rattle.refusal.specs.Checks.{firstOf}
 use Rattle.refusal.specs.Told.{gives, refuses}
-use Rattle.opus_tags.specs.Layout.{nextPlace, fitsAt}
-use Rattle.opus_tags.specs.Reading.{findText}
+use Rattle.tags_layout.specs.Layout.{nextPlace, fitsAt}
+use Rattle.tags_layout.specs.Finding.{findText}
 
 -- its length passes the end
 pub no-length : (b : Bytes) (at : ℕ) → length b < at + 4 → fitsAt b at ≡ false

@@ -1,11 +1,11 @@
--- `opus_tags::count_of` meets its contract. Assumes nothing.
+-- `tags_layout::count_of` meets its contract. Assumes nothing.
 use mathlib.Core.Path.{ap, _∙_}
 use native.Mathlib.Omega.{arith}
 use borrow.Author.Needs.{needs}
 use denote.Ref.{now}
 use Rattle.octets.specs.Numbers.{number}
-use Rattle.opus_tags.proofs.count_of.Statement.{statement}
-use Rattle.opus_tags.proofs.count_of.Tie as tie
+use Rattle.tags_layout.proofs.count_of.Statement.{statement}
+use Rattle.tags_layout.proofs.count_of.Tie as tie
 
 returns : tie.Need-returns
 returns c =

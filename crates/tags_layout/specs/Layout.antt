@@ -8,7 +8,7 @@ use lib.Dec.{leb}
 use lib.ListN.{length, take, drop}
 use Rattle.octets.specs.Octets.{Bytes, begins}
 use Rattle.octets.specs.Numbers.{number}
-use Rattle.opus_tags.specs.declared.Part.{Part}
+use Rattle.tags_layout.specs.declared.Part.{Part}
 
 -- "OpusTags"
 abbrev pub signature : Bytes

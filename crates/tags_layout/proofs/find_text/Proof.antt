@@ -1,14 +1,14 @@
--- `opus_tags::find_text` meets its contract. Assumes nothing.
+-- `tags_layout::find_text` meets its contract. Assumes nothing.
 use mathlib.Core.Path.{sym}
 use borrow.Author.Needs.{needs}
 use denote.Ref.{now}
 use Prim.Native.Nat.{_≤_}
 use lib.ListN.{length}
 use Rattle.octets.proofs.Tests.{failed, held}
-use Rattle.opus_tags.specs.Layout.{nextPlace}
-use Rattle.opus_tags.proofs.Fitting.{inside, no-part, a-part}
-use Rattle.opus_tags.proofs.find_text.Statement.{statement}
-use Rattle.opus_tags.proofs.find_text.Tie as tie
+use Rattle.tags_layout.specs.Layout.{nextPlace}
+use Rattle.tags_layout.proofs.Fitting.{inside, no-part, a-part}
+use Rattle.tags_layout.proofs.find_text.Statement.{statement}
+use Rattle.tags_layout.proofs.find_text.Tie as tie
 
 returns : tie.Need-returns
 returns c = let a = c .before .before .before .args in sym (no-part (now (a .b)) (a .at) (failed (c .before .fits-at .ensures) (c .if1 .taken)))
