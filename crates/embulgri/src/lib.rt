@@ -9,7 +9,6 @@ ghost use Rattle.embulgri.specs.Answers.{PageIn, PageOut, PacketIn, Head
 ghost use Rattle.embulgri.specs.Feeding.{OpenedIn, pageRecord, FedIn};
 use head_fields::Head;
 use head_writer::HeadWritten;
-use ogg_page::PageHeader;
 use ogg_page::PageRead;
 use old_clock::Added;
 use old_clock::Clock;
@@ -17,6 +16,7 @@ use opus_comment::GainRead;
 use opus_head::Verdict;
 use opus_packet::PacketRead;
 use opus_tags::TagsRead;
+use page_layout::PageHeader;
 use page_writer::PageWritten;
 use reader::StateFed;
 use reader::StateOpened;
@@ -40,8 +40,8 @@ pub extern "C" fn embulgri_page_read(page: &[u8], out: &mut [u64; 6]) -> u32
     let read = ogg_page::read_page(page);
     match read {
         PageRead::Page(h) => {
-            let values = ogg_page::lacing_of(page).len();
-            let body = ogg_page::body_of(page).len();
+            let values = page_layout::lacing_of(page).len();
+            let body = page_layout::body_of(page).len();
             *out = [
                 h.flags as u64,
                 h.granule,

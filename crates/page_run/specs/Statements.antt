@@ -5,7 +5,7 @@ use mathlib.Core.Bool.{false}
 use mathlib.Core.Option.{none}
 use lib.ListN.{length, drop}
 use Rattle.octets.specs.Octets.{Bytes, Octets}
-use Rattle.ogg_page.specs.Reading.{isOnePage}
+use Rattle.page_size.specs.Size.{isOnePage}
 use Rattle.stream.specs.Readings.{Readings}
 use Rattle.stream.specs.Feed.{Reader, Lent}
 use Rattle.page_run.specs.Run.{endAt, runs, started, feedPages, Fits}

@@ -12,7 +12,7 @@ ghost use Rattle.stream.specs.Feed.{lentOf};
 ghost use Rattle.reader.specs.Answers.{knownAs};
 ghost use Rattle.page_run.specs.Run.{endAt, added, Fits, turn as turnBy, feedPages};
 ghost use Rattle.page_run.specs.Answers.{foundEnd, reached, toldTurn, toldRun};
-use ogg_page::Extent;
+use page_size::Extent;
 use reader::Fed;
 use reader::Reader;
 use refusal::Refusal;
@@ -63,7 +63,7 @@ enum Turn {
 fn end_at(buffer: &[u8], at: usize) -> End
     ensures { λ r. ⌜ foundEnd r ≡ endAt (now (buffer .entry)) at ⌝ }
 {
-    match ogg_page::page_extent(buffer, at) {
+    match page_size::page_extent(buffer, at) {
         Extent::Ends(end) => {
             if end > buffer.len() {
                 return End::Cut;

@@ -16,10 +16,11 @@ use Rattle.refusal.specs.Checks.{Check, _when_, firstOf}
 use Rattle.refusal.specs.Told.{gives}
 use Rattle.refusal.proofs.Checks.{no-refusal, passed}
 use Rattle.ogg_crc.specs.Crc.{pageCrc}
-use Rattle.ogg_page.specs.declared.PageHeader.{PageHeader}
-use Rattle.ogg_page.specs.Page.{hasCapture, headerOf, checksumOf}
+use Rattle.page_layout.specs.declared.PageHeader.{PageHeader}
+use Rattle.page_layout.specs.Page.{hasCapture, headerOf, checksumOf}
+use Rattle.page_size.specs.Size.{isOnePage}
 use Rattle.lacing.specs.Lacing.{endedFrom, unfinishedFrom, cutFrom}
-use Rattle.ogg_page.specs.Reading.{isOnePage, readChecks, readPage}
+use Rattle.ogg_page.specs.Reading.{readChecks, readPage}
 use Rattle.page_writer.specs.Writing.{pageSize, writeTold}
 use Rattle.page_writer.specs.Statements.{Fit, ReadsAs}
 use Rattle.page_writer.proofs.RoundTrip.{reads-back}

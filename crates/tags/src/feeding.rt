@@ -1,6 +1,6 @@
 // Reading standard input, and feeding its pages up to the comment header.
 use head_fields::Head;
-use ogg_page::Extent;
+use page_size::Extent;
 use reader::Fed;
 use reader::Reader;
 
@@ -57,7 +57,7 @@ fn read_behind(buffer: &mut [u8], n: usize) -> Got {
 
 // Where the page ends that starts at `start`; 0 where it is not whole yet. Bytes that begin no page are fed as they stand.
 fn page_end(buffer: &[u8], start: usize, end: usize) -> usize {
-    match ogg_page::page_extent(octets::part_of(buffer, 0, end), start) {
+    match page_size::page_extent(octets::part_of(buffer, 0, end), start) {
         Extent::Ends(last) => {
             if last > end {
                 return 0;
@@ -129,7 +129,7 @@ fn feed_page(
 ) -> Progress {
     let reader = p.reader;
     let fed = reader::feed(reader, page, carry, ends, sizes, kept);
-    fed_page(p, fed, ogg_page::body_of(page))
+    fed_page(p, fed, page_layout::body_of(page))
 }
 
 // At the end of the input: bytes of a page that is not whole are fed as they stand.

@@ -1,4 +1,4 @@
--- `ogg_page::page_extent` meets its contract: past the buffer's end there are no bytes. Assumes nothing.
+-- `page_size::page_extent` meets its contract: past the buffer's end there are no bytes. Assumes nothing.
 use mathlib.Core.Path.{sym, ap, _∙_}
 use Prim.Native.Nat.{_-_}
 use native.Mathlib.Omega.{arith}
@@ -7,10 +7,10 @@ use denote.Ref.{now}
 use lib.ListN.{length, drop, length-drop}
 use lib.Seq.{take-all}
 use Rattle.octets.specs.Octets.{Bytes}
-use Rattle.ogg_page.specs.Extent.{extentIn, pageExtent}
-use Rattle.ogg_page.proofs.Extents.{short-header}
-use Rattle.ogg_page.proofs.page_extent.Statement.{statement}
-use Rattle.ogg_page.proofs.page_extent.Tie as tie
+use Rattle.page_size.specs.Extent.{extentIn, pageExtent}
+use Rattle.page_size.proofs.Extents.{short-header}
+use Rattle.page_size.proofs.page_extent.Statement.{statement}
+use Rattle.page_size.proofs.page_extent.Tie as tie
 
 returns : tie.Need-returns
 unfolding pageExtent

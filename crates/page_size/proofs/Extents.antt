@@ -5,9 +5,10 @@ use Prim.Native.Nat.{ℕ, _+_, _≤_, _<_}
 use borrow.Author.Tests.{lt-ltb, le-ltb}
 use lib.ListN.{length}
 use Rattle.octets.specs.Octets.{Bytes}
-use Rattle.ogg_page.specs.declared.Extent.the-variants.{Ends, Short, NoPage}
-use Rattle.ogg_page.specs.Page.{hasCapture, countOf, sizeOf}
-use Rattle.ogg_page.specs.Extent.{extentIn}
+use Rattle.page_layout.specs.Page.{hasCapture, countOf}
+use Rattle.page_size.specs.declared.Extent.the-variants.{Ends, Short, NoPage}
+use Rattle.page_size.specs.Size.{sizeOf}
+use Rattle.page_size.specs.Extent.{extentIn}
 
 module _ (s : Bytes) (at : ℕ) where
   pub short-header : length s < 27 → extentIn s at ≡ Short

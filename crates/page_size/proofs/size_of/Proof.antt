@@ -1,4 +1,4 @@
--- `ogg_page::size_of` meets its contract: a byte tells at most 255 values. Assumes nothing.
+-- `page_size::size_of` meets its contract: a byte tells at most 255 values. Assumes nothing.
 use mathlib.Core.Path.{_≡_, ap, ap₂, _∙_}
 use Prim.Native.Nat.{ℕ, _+_, _<_}
 use native.Mathlib.Omega.{arith}
@@ -7,9 +7,10 @@ use denote.Ref.{now}
 use lib.ListN.{take, drop, getD, length-take}
 use lib.Seq.{take-all}
 use Rattle.octets.specs.Octets.{Bytes, total}
-use Rattle.ogg_page.specs.Page.{countOf, lacingOf, sizeOf}
-use Rattle.ogg_page.proofs.size_of.Statement.{statement}
-use Rattle.ogg_page.proofs.size_of.Tie as tie
+use Rattle.page_layout.specs.Page.{countOf, lacingOf}
+use Rattle.page_size.specs.Size.{sizeOf}
+use Rattle.page_size.proofs.size_of.Statement.{statement}
+use Rattle.page_size.proofs.size_of.Tie as tie
 
 -- so all of them count
 all-count : (b : Bytes) → getD b 26 0 < 256 → take 255 (lacingOf b) ≡ lacingOf b

@@ -1,8 +1,8 @@
--- `ogg_page::header_of` meets its contract: field by field. Assumes nothing.
+-- `page_layout::header_of` meets its contract: field by field. Assumes nothing.
 use borrow.Author.Needs.{needs}
-use Rattle.ogg_page.specs.Page.{headerOf}
-use Rattle.ogg_page.proofs.header_of.Statement.{statement}
-use Rattle.ogg_page.proofs.header_of.Tie as tie
+use Rattle.page_layout.specs.Page.{headerOf}
+use Rattle.page_layout.proofs.header_of.Statement.{statement}
+use Rattle.page_layout.proofs.header_of.Tie as tie
 
 returns : tie.Need-returns
 unfolding headerOf

@@ -1,13 +1,13 @@
--- `ogg_page::is_one_page` meets its contract. Assumes nothing.
+-- `page_size::is_one_page` meets its contract. Assumes nothing.
 use mathlib.Core.Path.{sym, ap, _∙_}
 use borrow.Author.Needs.{needs}
 use denote.Ref.{now}
 use lib.Dec.{eqb}
 use lib.ListN.{length}
 use Rattle.octets.proofs.Tests.{equals, unequal, failed, held}
-use Rattle.ogg_page.proofs.Reading.{no-capture, other-version, size-decides}
-use Rattle.ogg_page.proofs.is_one_page.Statement.{statement}
-use Rattle.ogg_page.proofs.is_one_page.Tie as tie
+use Rattle.page_size.proofs.Shapes.{no-capture, other-version, size-decides}
+use Rattle.page_size.proofs.is_one_page.Statement.{statement}
+use Rattle.page_size.proofs.is_one_page.Tie as tie
 
 returns : tie.Need-returns
 returns c =

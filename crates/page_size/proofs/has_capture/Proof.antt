@@ -1,4 +1,4 @@
--- `ogg_page::has_capture` meets its contract: the first byte that differs decides. Assumes nothing.
+-- `page_size::has_capture` meets its contract: the first byte that differs decides. Assumes nothing.
 use mathlib.Core.Path.{_≡_, ap, _∙_}
 use mathlib.Core.Bool.{true}
 use Prim.Native.Nat.{ℕ}
@@ -7,10 +7,10 @@ use denote.Ref.{now}
 use lib.Dec.{eqb}
 use lib.ListN.{getD}
 use Rattle.octets.specs.Octets.{Bytes}
-use Rattle.ogg_page.specs.Page.{hasCapture}
+use Rattle.page_layout.specs.Page.{hasCapture}
 use Rattle.octets.proofs.Tests.{equals, unequal}
-use Rattle.ogg_page.proofs.has_capture.Statement.{statement}
-use Rattle.ogg_page.proofs.has_capture.Tie as tie
+use Rattle.page_size.proofs.has_capture.Statement.{statement}
+use Rattle.page_size.proofs.has_capture.Tie as tie
 
 returns : tie.Need-returns
 unfolding hasCapture

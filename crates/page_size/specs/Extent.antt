@@ -6,9 +6,10 @@ use lib.Dec.{ltb}
 use lib.ListN.{length, drop}
 use Rattle.octets.specs.Pick.{pick}
 use Rattle.octets.specs.Octets.{Bytes}
-use Rattle.ogg_page.specs.declared.Extent.{Extent}
-use Rattle.ogg_page.specs.declared.Extent.the-variants.{Ends, Short, NoPage}
-use Rattle.ogg_page.specs.Page.{hasCapture, countOf, sizeOf}
+use Rattle.page_layout.specs.Page.{hasCapture, countOf}
+use Rattle.page_size.specs.declared.Extent.{Extent}
+use Rattle.page_size.specs.declared.Extent.the-variants.{Ends, Short, NoPage}
+use Rattle.page_size.specs.Size.{sizeOf}
 
 -- s is what the buffer has from the place `at` on
 unfoldable pub extentIn : Bytes → ℕ → Extent

@@ -1,4 +1,4 @@
--- `ogg_page::body_of` meets its contract. Assumes nothing.
+-- `page_layout::body_of` meets its contract. Assumes nothing.
 use mathlib.Core.Path.{ap, _∙_}
 use Prim.Native.Nat.{ℕ, _+_}
 use native.Mathlib.Omega.{arith}
@@ -6,9 +6,9 @@ use borrow.Author.Needs.{needs}
 use denote.Ref.{now}
 use lib.ListN.{length, drop, length-drop}
 use lib.Seq.{take-all}
-use Rattle.ogg_page.specs.Page.{bodyOf}
-use Rattle.ogg_page.proofs.body_of.Statement.{statement}
-use Rattle.ogg_page.proofs.body_of.Tie as tie
+use Rattle.page_layout.specs.Page.{bodyOf}
+use Rattle.page_layout.proofs.body_of.Statement.{statement}
+use Rattle.page_layout.proofs.body_of.Tie as tie
 
 returns : tie.Need-returns
 unfolding bodyOf

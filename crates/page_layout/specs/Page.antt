@@ -4,9 +4,9 @@ use Prim.Native.Nat.{ℕ, _+_}
 use mathlib.Core.Bool.{Bool, _&&_}
 use lib.Dec.{eqb}
 use lib.ListN.{getD, take, drop}
-use Rattle.octets.specs.Octets.{Bytes, total}
+use Rattle.octets.specs.Octets.{Bytes}
 use Rattle.octets.specs.Numbers.{number}
-use Rattle.ogg_page.specs.declared.PageHeader.{PageHeader}
+use Rattle.page_layout.specs.declared.PageHeader.{PageHeader}
 
 -- "OggS"
 unfoldable pub hasCapture : Bytes → Bool
@@ -31,7 +31,3 @@ lacingOf b = take (countOf b) (drop 27 b)
 
 unfoldable pub bodyOf : Bytes → Bytes
 bodyOf b = drop (27 + countOf b) b
-
--- how long the page is by its lacing values
-unfoldable pub sizeOf : Bytes → ℕ
-sizeOf b = 27 + countOf b + total (lacingOf b)

@@ -1,14 +1,14 @@
--- `ogg_page::extent_in` meets its contract. Assumes nothing.
+-- `page_size::extent_in` meets its contract. Assumes nothing.
 use mathlib.Core.Path.{sym, ap, _∙_}
 use Prim.Native.Nat.{ℕ, _+_}
 use native.Mathlib.Omega.{arith}
 use borrow.Author.Needs.{needs}
 use denote.Ref.{now}
 use Rattle.octets.proofs.Tests.{failed, held}
-use Rattle.ogg_page.specs.declared.Extent.the-variants.{Ends}
-use Rattle.ogg_page.proofs.Extents.{short-header, no-page, short-lacing, ends-at}
-use Rattle.ogg_page.proofs.extent_in.Statement.{statement}
-use Rattle.ogg_page.proofs.extent_in.Tie as tie
+use Rattle.page_size.specs.declared.Extent.the-variants.{Ends}
+use Rattle.page_size.proofs.Extents.{short-header, no-page, short-lacing, ends-at}
+use Rattle.page_size.proofs.extent_in.Statement.{statement}
+use Rattle.page_size.proofs.extent_in.Tie as tie
 
 returns : tie.Need-returns
 returns c = let a = c .before .before .args in sym (short-header (now (a .s)) (a .at) (c .if1 .taken))

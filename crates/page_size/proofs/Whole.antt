@@ -7,8 +7,8 @@ use lib.Dec.{eqb}
 use lib.ListN.{length, getD, length-take, length-drop}
 use Rattle.octets.specs.Octets.{Bytes, total}
 use Rattle.octets.proofs.Tests.{both, equal-and}
-use Rattle.ogg_page.specs.Page.{hasCapture, versionOf, countOf, lacingOf, bodyOf, sizeOf}
-use Rattle.ogg_page.specs.Reading.{isOnePage}
+use Rattle.page_layout.specs.Page.{hasCapture, versionOf, countOf, lacingOf, bodyOf}
+use Rattle.page_size.specs.Size.{sizeOf, isOnePage}
 
 pub capture : (p : Bytes) → hasCapture p ≡ true
     → (getD p 0 0 ≡ 0x4f) × ((getD p 1 0 ≡ 0x67) × ((getD p 2 0 ≡ 0x67) × (getD p 3 0 ≡ 0x53)))

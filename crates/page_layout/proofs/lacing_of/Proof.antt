@@ -1,12 +1,12 @@
--- `ogg_page::lacing_of` meets its contract. Assumes nothing.
+-- `page_layout::lacing_of` meets its contract. Assumes nothing.
 use mathlib.Core.Path.{ap, _∙_}
 use Prim.Native.Nat.{ℕ}
 use borrow.Author.Needs.{needs}
 use denote.Ref.{now}
 use lib.ListN.{take, drop}
-use Rattle.ogg_page.specs.Page.{lacingOf}
-use Rattle.ogg_page.proofs.lacing_of.Statement.{statement}
-use Rattle.ogg_page.proofs.lacing_of.Tie as tie
+use Rattle.page_layout.specs.Page.{lacingOf}
+use Rattle.page_layout.proofs.lacing_of.Statement.{statement}
+use Rattle.page_layout.proofs.lacing_of.Tie as tie
 
 returns : tie.Need-returns
 unfolding lacingOf
