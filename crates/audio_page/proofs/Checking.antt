@@ -16,7 +16,7 @@ use Rattle.refusal.specs.declared.Refusal.{Refusal}
 use Rattle.refusal.specs.declared.Refusal.the-variants.{ShortRoom, PacketTooLong, WrongGranule}
 use Rattle.refusal.specs.Checks.{firstOf}
 use Rattle.refusal.specs.Told.{Told}
-use Rattle.ogg_page.specs.declared.PageHeader.{PageHeader}
+use Rattle.page_layout.specs.declared.PageHeader.{PageHeader}
 use Rattle.lacing.specs.Lacing.{unfinishedFrom, isBody}
 use Rattle.granule.specs.Judging.{granuleWrong}
 use Rattle.stream.specs.declared.Phase.{Phase}

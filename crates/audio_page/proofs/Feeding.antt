@@ -11,7 +11,7 @@ use Rattle.refusal.specs.declared.Refusal.{Refusal}
 use Rattle.refusal.specs.Checks.{Check, firstOf}
 use Rattle.refusal.specs.Told.{Told, gives, refuses, decided, numberIn}
 use Rattle.refusal.specs.Numbers.{numberOf}
-use Rattle.ogg_page.specs.declared.PageHeader.{PageHeader}
+use Rattle.page_layout.specs.declared.PageHeader.{PageHeader}
 use Rattle.granule.specs.declared.Position.the-variants.{At}
 use Rattle.granule.specs.declared.Placed.{Placed}
 use Rattle.granule.specs.Samples.{tally, trimmedOf, skippedOf, keptOf}

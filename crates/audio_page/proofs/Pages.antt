@@ -6,7 +6,7 @@ use lib.ListN.{length, take}
 use Rattle.octets.specs.Octets.{Bytes}
 use Rattle.refusal.specs.declared.Refusal.{Refusal}
 use Rattle.refusal.specs.Told.{Told}
-use Rattle.ogg_page.specs.declared.PageHeader.{PageHeader}
+use Rattle.page_layout.specs.declared.PageHeader.{PageHeader}
 use Rattle.granule.specs.declared.Position.the-variants.{At}
 use Rattle.granule.specs.declared.Placed.{Placed}
 use Rattle.granule.specs.Samples.{trimmedOf}

@@ -7,7 +7,7 @@ use Rattle.refusal.specs.declared.Refusal.{Refusal}
 use Rattle.refusal.specs.Checks.{firstOf}
 use Rattle.refusal.specs.Told.{Told, gives}
 use Rattle.refusal.proofs.Checks.{no-refusal}
-use Rattle.ogg_page.specs.declared.PageHeader.{PageHeader}
+use Rattle.page_layout.specs.declared.PageHeader.{PageHeader}
 use Rattle.granule.specs.declared.Placed.{Placed as Place}
 use Rattle.granule.specs.declared.Judged.{Judged}
 use Rattle.granule.specs.declared.Judged.the-variants.{Placed, Refused as Unplaced}

@@ -14,7 +14,7 @@ use Rattle.refusal.specs.declared.Refusal.the-variants.{IllegalPacket, MixedLen
 use Rattle.refusal.specs.Checks.{Check, _when_, firstOf, orElse}
 use Rattle.refusal.specs.Told.{Told, gives, decided}
 use Rattle.refusal.proofs.Checks.{first-of-append}
-use Rattle.ogg_page.specs.declared.PageHeader.{PageHeader}
+use Rattle.page_layout.specs.declared.PageHeader.{PageHeader}
 use Rattle.opus_packet.specs.Streams.{lengthsOf, isIllegal, isMixed, firstLength, readPacket}
 use Rattle.granule.specs.declared.Position.{Position}
 use Rattle.granule.specs.declared.Placed.{Placed}

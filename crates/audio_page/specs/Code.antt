@@ -12,7 +12,7 @@ use Rattle.octets.specs.Octets.{Bytes, total}
 use Rattle.refusal.specs.Checks.{Check, firstOf}
 use Rattle.refusal.specs.Told.{Told, gives, refuses}
 use Rattle.refusal.specs.Numbers.{numberOf}
-use Rattle.ogg_page.specs.declared.PageHeader.{PageHeader}
+use Rattle.page_layout.specs.declared.PageHeader.{PageHeader}
 use Rattle.opus_packet.specs.Streams.{readPacket}
 use Rattle.granule.specs.declared.Position.{Position}
 use Rattle.granule.specs.declared.Placed.{Placed}

@@ -7,7 +7,7 @@ ghost use Rattle.stream.specs.Feed.{carriedIn, appended, withRest};
 ghost use Rattle.audio_page.specs.Code.{restOf, begunBy, stillBy, freshBy, nextCore};
 use super::times;
 use granule::Position;
-use ogg_page::PageHeader;
+use page_layout::PageHeader;
 use stream::Core;
 use stream::Pending;
 use stream::Phase;

@@ -15,8 +15,8 @@ ghost use Rattle.audio_page.specs.Code.{freshBy, lateFed, Fitting, Sound
 ghost use Rattle.lacing.specs.Lacing.{isBody};
 use granule::Position;
 use lacing_checks::Scan;
-use ogg_page::PageHeader;
 use packets::Piece;
+use page_layout::PageHeader;
 use refusal::Refusal;
 use stream::Core;
 use stream::Counts;

@@ -11,7 +11,7 @@ use super::packets::Lengths;
 use super::packets::Piece;
 use granule::Judged;
 use granule::Placed;
-use ogg_page::PageHeader;
+use page_layout::PageHeader;
 use refusal::Refusal;
 use stream::Core;
 use stream::Counts;

@@ -10,10 +10,10 @@ use Rattle.octets.specs.Octets.{Bytes, total}
 use Rattle.refusal.specs.declared.Refusal.{Refusal}
 use Rattle.refusal.specs.Checks.{firstOf}
 use Rattle.refusal.specs.Told.{Told}
-use Rattle.ogg_page.specs.declared.PageHeader.{PageHeader}
-use Rattle.ogg_page.specs.Page.{lacingOf, bodyOf}
+use Rattle.page_layout.specs.declared.PageHeader.{PageHeader}
+use Rattle.page_layout.specs.Page.{lacingOf, bodyOf}
 use Rattle.lacing.specs.Lacing.{isBody}
-use Rattle.ogg_page.proofs.Whole.{body-length}
+use Rattle.page_size.proofs.Whole.{body-length}
 use Rattle.stream.specs.declared.Phase.{Phase}
 use Rattle.stream.specs.declared.Phase.the-variants.{First, Comment, Audio, Opened, Ended}
 use Rattle.stream.specs.declared.Pending.{Pending}

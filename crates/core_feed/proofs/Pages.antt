@@ -16,9 +16,10 @@ use Rattle.refusal.specs.Checks.{_when_, firstOf}
 use Rattle.refusal.specs.Numbers.{numberOf}
 use Rattle.refusal.specs.Told.{gives, refuses, decided, numberIn}
 use Rattle.refusal.proofs.Checks.{first-of-append, no-refusal, passed}
-use Rattle.ogg_page.specs.declared.PageHeader.{PageHeader}
-use Rattle.ogg_page.specs.Page.{headerOf, lacingOf, bodyOf, checksumOf}
-use Rattle.ogg_page.specs.Reading.{isOnePage, readChecks, readPage}
+use Rattle.page_layout.specs.declared.PageHeader.{PageHeader}
+use Rattle.page_layout.specs.Page.{headerOf, lacingOf, bodyOf, checksumOf}
+use Rattle.page_size.specs.Size.{isOnePage}
+use Rattle.ogg_page.specs.Reading.{readChecks, readPage}
 use Rattle.stream.specs.declared.Phase.{Phase}
 use Rattle.stream.specs.declared.Phase.the-variants.{First, Comment, Audio, Opened, Ended}
 use Rattle.stream.specs.declared.Pending.{Pending}

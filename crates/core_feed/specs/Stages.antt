@@ -8,9 +8,9 @@ use Rattle.refusal.specs.declared.Refusal.the-variants.{ShortRoom, AfterEnd}
 use Rattle.refusal.specs.Checks.{Check, _when_, firstOf}
 use Rattle.refusal.specs.Numbers.{numberOf}
 use Rattle.refusal.specs.Told.{Told, refuses}
-use Rattle.ogg_page.specs.declared.PageHeader.{PageHeader}
-use Rattle.ogg_page.specs.Page.{lacingOf, bodyOf}
-use Rattle.ogg_page.specs.Reading.{isOnePage}
+use Rattle.page_layout.specs.declared.PageHeader.{PageHeader}
+use Rattle.page_layout.specs.Page.{lacingOf, bodyOf}
+use Rattle.page_size.specs.Size.{isOnePage}
 use Rattle.stream.specs.declared.Phase.{Phase}
 use Rattle.stream.specs.declared.Core.{Core}
 use Rattle.stream.specs.declared.Tally.{Tally}

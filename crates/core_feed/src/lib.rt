@@ -19,9 +19,9 @@ ghost use Rattle.audio_page.specs.Audio.{toldAudio};
 ghost use Rattle.header_page.specs.Header.{toldHeader};
 use audio_page::AudioFed;
 use header_page::HeaderFed;
-use ogg_page::PageHeader;
 use ogg_page::PageRead;
 use page_checks::Checked;
+use page_layout::PageHeader;
 use refusal::Refusal;
 use stream::Core;
 use stream::Counts;
@@ -114,8 +114,8 @@ fn feed_read(
 {
     match page_due(core, read) {
         Due::Page(due, h) => {
-            let lacing = ogg_page::lacing_of(page);
-            let body = ogg_page::body_of(page);
+            let lacing = page_layout::lacing_of(page);
+            let body = page_layout::body_of(page);
             let phase = due.phase;
             if phases::is_audio(phase) {
                 return of_audio(audio_page::feed_audio(

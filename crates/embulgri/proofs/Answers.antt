@@ -14,10 +14,10 @@ use Rattle.refusal.specs.declared.Refusal.the-variants.{UnfitFields}
 use Rattle.refusal.specs.Checks.{_when_, firstOf}
 use Rattle.refusal.specs.Told.{Told, gives, refuses, retold}
 use Rattle.ogg_crc.specs.Crc.{pageCrc}
-use Rattle.ogg_page.specs.declared.PageHeader.{PageHeader}
+use Rattle.page_layout.specs.declared.PageHeader.{PageHeader}
+use Rattle.page_layout.specs.Page.{lacingOf, bodyOf}
 use Rattle.ogg_page.specs.declared.PageRead.{PageRead}
 use Rattle.ogg_page.specs.declared.PageRead.the-variants.{Page, Refused as NoPage}
-use Rattle.ogg_page.specs.Page.{lacingOf, bodyOf}
 use Rattle.ogg_page.specs.Reading.{readPage, toldRead}
 use Rattle.page_writer.specs.declared.PageWritten.{PageWritten}
 use Rattle.page_writer.specs.declared.PageWritten.the-variants.{Bytes as PageBytes, Refused as PageRefused}

@@ -1,26 +1,26 @@
 // The library for programs in C, Rust and Python: numbers and slices only. include/embulgri.h declares these functions.
 ghost use mathlib.Core.Path.{_≡_};
 ghost use Rattle.ogg_crc.specs.Crc.{crc};
-ghost use Rattle.opus_tags.specs.Reading.{toldPart};
+ghost use Rattle.tags_layout.specs.Finding.{toldPart};
 ghost use Rattle.stream.specs.Feed.{start as started, lentOf};
 ghost use Rattle.state_numbers.specs.Numbers.{numbersOf};
 ghost use Rattle.embulgri.specs.Answers.{PageIn, PageOut, PacketIn, HeadIn, HeadLaid, TagsIn, PartIn, VendorIn, CommentIn, GainIn, TagsOut, ClockAfter};
 ghost use Rattle.embulgri.specs.Feeding.{OpenedIn, pageRecord, FedIn};
 use head_writer::HeadWritten;
-use ogg_page::PageHeader;
 use ogg_page::PageRead;
 use old_clock::Added;
 use old_clock::Clock;
 use opus_comment::GainRead;
 use opus_head::Verdict;
 use opus_packet::PacketRead;
-use opus_tags::PartRead;
 use opus_tags::TagsRead;
+use page_layout::PageHeader;
 use page_writer::PageWritten;
 use reader::StateFed;
 use reader::StateOpened;
 use refusal::Refusal;
 use stream::Counts;
+use tags_layout::PartRead;
 use tags_writer::TagsWritten;
 
 #[no_mangle]
@@ -38,8 +38,8 @@ pub extern "C" fn embulgri_page_read(page: &[u8], out: &mut [u64; 6]) -> u32
     let read = ogg_page::read_page(page);
     match read {
         PageRead::Page(h) => {
-            let values = ogg_page::lacing_of(page).len();
-            let body = ogg_page::body_of(page).len();
+            let values = page_layout::lacing_of(page).len();
+            let body = page_layout::body_of(page).len();
             *out = [
                 h.flags as u64,
                 h.granule,

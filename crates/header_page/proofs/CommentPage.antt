@@ -16,8 +16,8 @@ use Rattle.refusal.specs.Checks.{firstOf}
 use Rattle.refusal.specs.Numbers.{numberOf}
 use Rattle.refusal.specs.Told.{gives, refuses, decided, retold, numberIn}
 use Rattle.refusal.proofs.Checks.{passed}
-use Rattle.ogg_page.specs.declared.PageHeader.{PageHeader}
-use Rattle.opus_tags.specs.Layout.{Tags, tagsOf}
+use Rattle.page_layout.specs.declared.PageHeader.{PageHeader}
+use Rattle.tags_layout.specs.Layout.{Tags, tagsOf}
 use Rattle.opus_tags.specs.Right.{isTags}
 use Rattle.opus_tags.specs.Reading.{readChecks, readTags, commentCount}
 use Rattle.stream.specs.declared.Phase.the-variants.{Comment, Audio}

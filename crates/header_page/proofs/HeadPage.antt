@@ -14,7 +14,7 @@ use Rattle.refusal.specs.Checks.{firstOf}
 use Rattle.refusal.specs.Numbers.{numberOf}
 use Rattle.refusal.specs.Told.{gives, refuses, decided}
 use Rattle.refusal.proofs.Checks.{no-refusal}
-use Rattle.ogg_page.specs.declared.PageHeader.{PageHeader}
+use Rattle.page_layout.specs.declared.PageHeader.{PageHeader}
 use Rattle.head_fields.specs.declared.Head.{Head}
 use Rattle.opus_head.specs.Fields.{headOf}
 use Rattle.head_fields.specs.Right.{rightMapping}

@@ -6,7 +6,7 @@ use mathlib.Core.Option.{none, some}
 use lib.ListN.{length}
 use Rattle.octets.specs.Octets.{Bytes, total}
 use Rattle.refusal.specs.Checks.{firstOf}
-use Rattle.ogg_page.specs.declared.PageHeader.{PageHeader}
+use Rattle.page_layout.specs.declared.PageHeader.{PageHeader}
 use Rattle.stream.specs.declared.Phase.{Phase}
 use Rattle.stream.specs.declared.Pending.{Pending}
 use Rattle.stream.specs.declared.Pending.the-variants.{Nothing, Held, Dropped}

@@ -1,4 +1,2 @@
 pub mod Reading
-pub mod Extents
-pub mod Whole
 pub mod Lent

@@ -1,4 +1,2 @@
-pub mod Page
-pub mod Extent
 pub mod Reading
 pub mod Statements

@@ -1,23 +1,19 @@
 -- Reading a page (document 01, refusals 3 and 4; RFC 3533, 6). How a page's checksum is worked out is a parameter: the
 -- checksum itself, or what lent tables give. Assumes nothing.
 use Prim.Native.Nat.{ℕ}
-use mathlib.Core.Bool.{Bool, not, _&&_}
+use mathlib.Core.Bool.{not}
 use mathlib.Core.List.{List, [], _∷_}
 use lib.Dec.{eqb}
-use lib.ListN.{length}
 use Rattle.octets.specs.Octets.{Bytes}
 use Rattle.refusal.specs.declared.Refusal.the-variants.{NotOnePage, WrongChecksum}
 use Rattle.refusal.specs.Checks.{Check, _when_, firstOf}
 use Rattle.refusal.specs.Told.{Told, gives, refuses, decided}
 use Rattle.refusal.specs.Numbers.{numberOf}
-use Rattle.ogg_page.specs.declared.PageHeader.{PageHeader}
+use Rattle.page_layout.specs.declared.PageHeader.{PageHeader}
+use Rattle.page_layout.specs.Page.{headerOf, checksumOf}
+use Rattle.page_size.specs.Size.{isOnePage}
 use Rattle.ogg_page.specs.declared.PageRead.{PageRead}
 use Rattle.ogg_page.specs.declared.PageRead.the-variants.{Page, Refused}
-use Rattle.ogg_page.specs.Page.{hasCapture, versionOf, headerOf, checksumOf, sizeOf}
-
--- exactly one whole page, of version 0
-unfoldable pub isOnePage : Bytes → Bool
-isOnePage b = hasCapture b && (eqb (versionOf b) 0 && eqb (length b) (sizeOf b))
 
 abbrev pub readChecks : (Bytes → ℕ) → Bytes → List Check
 readChecks crc b = NotOnePage when not (isOnePage b) ∷ WrongChecksum when not (eqb (crc b) (checksumOf b)) ∷ []

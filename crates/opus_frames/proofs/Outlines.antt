@@ -11,7 +11,8 @@ use lib.Dec.{ltb, eqb}
 use lib.ListN.{length, drop, replicate}
 use Rattle.octets.specs.Pick.{pick}
 use Rattle.octets.specs.Octets.{Bytes, total}
-use Rattle.opus_frames.specs.Frames.{codeOf, frameSamples, frameMax, samplesMax, Rule, R1, R2, R3, R4, R5, Read, short, value, coded, withFirst, andLater, codedTimes, paddingFrom}
+use Rattle.opus_toc.specs.Toc.{codeOf, frameSamples}
+use Rattle.opus_frames.specs.Frames.{frameMax, samplesMax, Rule, R1, R2, R3, R4, R5, Read, short, value, coded, withFirst, andLater, codedTimes, paddingFrom}
 use Rattle.opus_frames.specs.Packet.{Shape, broken, shape, padded, hasPadding, countOf, isVariable, countedShape, shapeOf, Parsed, breaks, frames, placed, lastFrame, onRead, parseShape, parse}
 use Rattle.opus_frames.specs.Code.{plainOf, framesIn, outline}
 

@@ -9,7 +9,8 @@ use lib.Dec.{ltb}
 use lib.ListN.{length, getD, drop}
 use Rattle.octets.specs.Pick.{pick}
 use Rattle.octets.specs.Octets.{Bytes}
-use Rattle.opus_frames.specs.Frames.{codeOf, frameSamples, Read, short, value, paddingFrom}
+use Rattle.opus_toc.specs.Toc.{codeOf, frameSamples}
+use Rattle.opus_frames.specs.Frames.{Read, short, value, paddingFrom}
 use Rattle.opus_frames.specs.Packet.{countOf, isVariable, padded, countedShape, shapeOf}
 use Rattle.opus_frames.specs.Code.{capped, Plain, none, plain, plainOf}
 

@@ -8,7 +8,8 @@ use lib.Dec.{ltb, leb, eqb}
 use lib.ListN.{length, drop, replicate}
 use Rattle.octets.specs.Pick.{pick}
 use Rattle.octets.specs.Octets.{Bytes, total}
-use Rattle.opus_frames.specs.Frames.{codeOf, frameSamples, Rule, R1, R2, R3, R4, R5, R6, R7, frameMax, samplesMax, Read, short, value, coded, codedTimes, paddingFrom}
+use Rattle.opus_toc.specs.Toc.{codeOf, frameSamples}
+use Rattle.opus_frames.specs.Frames.{Rule, R1, R2, R3, R4, R5, R6, R7, frameMax, samplesMax, Read, short, value, coded, codedTimes, paddingFrom}
 
 -- how the frames of a packet stand in it: how many there are, whether each has a length of its own, the bytes of padding at
 -- the end, what follows the bytes that tell this, and the rule that the lengths obey

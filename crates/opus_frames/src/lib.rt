@@ -1,9 +1,9 @@
-// One Opus packet (RFC 6716, 3 and Appendix B): how its frames stand in it, and the samples of a frame.
+// One Opus packet (RFC 6716, 3 and Appendix B): how its frames stand in it.
 ghost use mathlib.Core.Path.{_≡_};
 ghost use mathlib.Core.Bool.{true, false};
 ghost use Prim.Native.Nat.{_≤_};
 ghost use lib.ListN.{length, getD, drop};
-ghost use Rattle.opus_frames.specs.Frames.{frameSamples, coded, codedTimes, paddingFrom};
+ghost use Rattle.opus_frames.specs.Frames.{coded, codedTimes, paddingFrom};
 ghost use Rattle.opus_frames.specs.Packet.{countedShape, shapeOf, parse};
 ghost use Rattle.opus_frames.specs.Code.{toldFound, Within, summed, capped, plain, plainOf, toldLayout, Sound, placedCount, framesIn, outline};
 
@@ -23,30 +23,6 @@ enum Layout {
         padding: usize,
         at: usize,
     },
-}
-
-// Samples in a frame at 48 kHz, by the config in a packet's first byte.
-pub fn frame_samples(toc: u8) -> u32
-    ensures { λ r. ⌜ r ≡ frameSamples toc ⌝ }
-{
-    let config = toc / 8;
-    let four = config % 4;
-    match config {
-        0..=11 => match four {
-            0 => 480,
-            1 => 960,
-            2 => 1920,
-            _ => 2880,
-        },
-        12..=15 => { if config % 2 == 0 { 480 } else { 960 } }
-        16..=31 => match four {
-            0 => 120,
-            1 => 240,
-            2 => 480,
-            _ => 960,
-        },
-        _ => 0,
-    }
 }
 
 // One coded length: a byte up to 251, or a larger one and four times the next.
@@ -120,7 +96,7 @@ fn counted_layout(s: &[u8]) -> Layout
     let c = octets::wide(s[1]);
     let count = c % 64;
     let vary = c >= 128;
-    let samples = frame_samples(s[0]);
+    let samples = opus_toc::frame_samples(s[0]);
     if count == 0 {
         return Layout::Illegal;
     }

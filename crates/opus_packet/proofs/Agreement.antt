@@ -9,7 +9,8 @@ use lib.Dec.{ltb, eqb}
 use lib.ListN.{length, getD, drop}
 use Rattle.octets.specs.Pick.{pick}
 use Rattle.octets.specs.Octets.{Bytes}
-use Rattle.opus_frames.specs.Frames.{frameSamples, Read, short, value}
+use Rattle.opus_toc.specs.Toc.{frameSamples}
+use Rattle.opus_frames.specs.Frames.{Read, short, value}
 use Rattle.opus_frames.specs.Packet.{Parsed, breaks, frames, parse}
 use Rattle.opus_frames.specs.Code.{outline}
 use Rattle.opus_packet.specs.declared.Measure.{Measure}

@@ -12,9 +12,10 @@ use Rattle.octets.specs.Pick.{pick}
 use Rattle.octets.specs.Octets.{Bytes, total}
 use Rattle.refusal.specs.Checks.{firstOf}
 use Rattle.refusal.proofs.Checks.{no-refusal, passed}
-use Rattle.opus_frames.specs.Frames.{codeOf, frameSamples, frameMax, samplesMax, Rule, R2, R3, R4, R5, Read, short, value, coded, codedTimes, paddingFrom}
+use Rattle.opus_toc.specs.Toc.{codeOf, frameSamples}
+use Rattle.opus_frames.specs.Frames.{frameMax, samplesMax, Rule, R2, R3, R4, R5, Read, short, value, coded, codedTimes, paddingFrom}
 use Rattle.opus_frames.specs.Packet.{Shape, broken, shape, padded, countOf, isVariable, hasPadding, countedShape, shapeOf, Parsed, breaks, frames, onRead, parseShape, parse}
-use Rattle.opus_frames.proofs.Samples.{FrameLength, frame-length}
+use Rattle.opus_toc.proofs.Samples.{FrameLength, frame-length}
 use Rattle.opus_frames.proofs.Shapes.{some}
 use Rattle.opus_frames.proofs.Framing.{times-length}
 use Rattle.opus_packet.specs.Streams.{samplesOf, Measured, illegal, measured, withFirst, lastOf, firstAnd, lengthsOf, isIllegal, packetChecks, firstLength, readPacket}

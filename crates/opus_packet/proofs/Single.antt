@@ -10,7 +10,8 @@ use lib.ListN.{length, getD}
 use Rattle.octets.specs.Octets.{Bytes, total}
 use Rattle.octets.proofs.Tests.{both}
 use Rattle.refusal.specs.Told.{gives}
-use Rattle.opus_frames.specs.Frames.{codeOf, frameSamples, codedTimes}
+use Rattle.opus_toc.specs.Toc.{codeOf, frameSamples}
+use Rattle.opus_frames.specs.Frames.{codedTimes}
 use Rattle.opus_frames.specs.Packet.{shapeOf, parse}
 use Rattle.opus_packet.specs.Streams.{measured, lengthsOf, allAre, readPacket}
 use Rattle.opus_packet.specs.Code.{isSingle}

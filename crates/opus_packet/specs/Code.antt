@@ -6,7 +6,8 @@ use lib.Dec.{ltb, eqb}
 use lib.ListN.{length, getD, drop}
 use Rattle.octets.specs.Pick.{pick}
 use Rattle.octets.specs.Octets.{Bytes}
-use Rattle.opus_frames.specs.Frames.{codeOf, Read, short, value}
+use Rattle.opus_toc.specs.Toc.{codeOf}
+use Rattle.opus_frames.specs.Frames.{Read, short, value}
 use Rattle.opus_frames.specs.Packet.{Parsed, breaks, frames}
 use Rattle.opus_packet.specs.declared.Measure.{Measure}
 use Rattle.opus_packet.specs.declared.Measure.the-variants.{Illegal, Samples}

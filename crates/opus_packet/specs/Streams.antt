@@ -10,7 +10,7 @@ use Rattle.refusal.specs.declared.Refusal.the-variants.{BadMapping, IllegalPack
 use Rattle.refusal.specs.Checks.{Check, _when_, firstOf}
 use Rattle.refusal.specs.Told.{Told, gives, refuses, decided}
 use Rattle.refusal.specs.Numbers.{numberOf}
-use Rattle.opus_frames.specs.Frames.{frameSamples}
+use Rattle.opus_toc.specs.Toc.{frameSamples}
 use Rattle.opus_frames.specs.Packet.{Parsed, breaks, frames, parse}
 use Rattle.opus_packet.specs.declared.PacketRead.{PacketRead}
 use Rattle.opus_packet.specs.declared.PacketRead.the-variants.{Samples, Refused}

@@ -47,7 +47,7 @@ fn with_first(d: u32, later: Lengths) -> Lengths
 fn packet_samples(s: &[u8], delimited: bool) -> Measure
     ensures { λ r. ⌜ (toldMeasure (now (s .entry)) r ≡ lengthIn (now (s .entry)) (parse delimited (now (s .entry)))) × EndsIn (now (s .entry)) r ⌝ }
 {
-    let samples = opus_frames::frame_samples(octets::byte_at(s, 0));
+    let samples = opus_toc::frame_samples(octets::byte_at(s, 0));
     let Found::Value(count, next) = opus_frames::packet_frames(s, delimited) else {
         return Measure::Illegal;
     };
@@ -102,7 +102,7 @@ pub fn read_packet_quick(bytes: &[u8], streams: u64) -> PacketRead
 {
     if streams == 1 {
         if is_single(bytes) {
-            return PacketRead::Samples(opus_frames::frame_samples(octets::byte_at(bytes, 0)));
+            return PacketRead::Samples(opus_toc::frame_samples(octets::byte_at(bytes, 0)));
         }
     }
     read_packet(bytes, streams)

@@ -11,14 +11,16 @@ use Rattle.octets.specs.Pick.{pick}
 use Rattle.octets.specs.Octets.{Bytes, begins}
 use Rattle.utf8.specs.Characters.{utf8}
 use Rattle.opus_comment.specs.Names.{isNamed}
-use Rattle.opus_tags.specs.declared.Gains.the-variants.{Wrong as WrongComment, Seen}
+use Rattle.tags_rules.specs.declared.Gains.the-variants.{Wrong as WrongComment, Seen}
+use Rattle.tags_rules.specs.Right.{trackGain, albumGain, rightComments}
+use Rattle.tags_rules.specs.Code.{goesOn, judged, rightFrom}
+use Rattle.tags_rules.proofs.Counting.{and-false, right-from}
+use Rattle.tags_layout.specs.Layout.{signature, partAt, nextPlace, fitsAt, bytesOf, allFit, textsFrom, placeAfter, vendorPart, countOf, firstPlace, isLaidOut, tagsOf}
 use Rattle.opus_tags.specs.declared.Walk.{Walk}
 use Rattle.opus_tags.specs.declared.Walk.the-variants.{Wrong, At}
-use Rattle.opus_tags.specs.Layout.{signature, partAt, nextPlace, fitsAt, bytesOf, allFit, textsFrom, placeAfter, vendorPart, countOf, firstPlace, isLaidOut, tagsOf}
-use Rattle.opus_tags.specs.Right.{trackGain, albumGain, rightComments, rightTags, isTags}
-use Rattle.opus_tags.specs.Code.{goesOn, judged, rightFrom, onward, stepped, walked, startsRight, begun, isRight, placeIn}
+use Rattle.opus_tags.specs.Right.{rightTags, isTags}
+use Rattle.opus_tags.specs.Code.{onward, stepped, walked, startsRight, begun, isRight, placeIn}
 use Rattle.opus_tags.proofs.Walking.{walked-wrong}
-use Rattle.opus_tags.proofs.Counting.{and-false, right-from}
 
 -- ---- up to the first comment
 

@@ -15,11 +15,12 @@ use Rattle.refusal.specs.Told.{gives, refuses, decided, retold}
 use Rattle.refusal.proofs.Checks.{first-of-append, no-refusal}
 use Rattle.opus_comment.specs.Names.{valueOf}
 use Rattle.opus_comment.specs.Gain.{gainOf, gainChecks, commentGain}
-use Rattle.opus_tags.specs.declared.Part.{Part}
+use Rattle.tags_layout.specs.declared.Part.{Part}
+use Rattle.tags_layout.specs.Layout.{signature, partAt, fitsAt, bytesOf, allFit, textsFrom, placeAfter, countOf, firstPlace, nextPlace, isLaidOut, tagsOf}
+use Rattle.tags_layout.specs.Finding.{findText}
 use Rattle.opus_tags.specs.declared.Walk.{Walk}
-use Rattle.opus_tags.specs.Layout.{signature, partAt, fitsAt, bytesOf, allFit, textsFrom, placeAfter, countOf, firstPlace, nextPlace, isLaidOut, tagsOf}
 use Rattle.opus_tags.specs.Right.{rightTags, isTags}
-use Rattle.opus_tags.specs.Reading.{readTags, commentCount, findVendor, findChecks, commentPart, findComment, findText, commentOf, readGain}
+use Rattle.opus_tags.specs.Reading.{readTags, commentCount, findVendor, findChecks, commentPart, findComment, commentOf, readGain}
 use Rattle.opus_tags.specs.Code.{walked, begun, isRight, placeIn}
 use Rattle.opus_tags.proofs.Checking.{walk-is-tags, walk-plus, still-right, text-fits, start-place}
 

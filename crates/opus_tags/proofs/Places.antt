@@ -15,11 +15,12 @@ use Rattle.refusal.specs.declared.Refusal.the-variants.{BadTags}
 use Rattle.refusal.specs.Checks.{firstOf}
 use Rattle.refusal.specs.Told.{gives}
 use Rattle.refusal.proofs.Checks.{passed, no-refusal}
-use Rattle.opus_tags.specs.Layout.{Tags, signature, partAt, nextPlace, fitsAt, bytesOf, allFit, textsFrom, placeAfter, countOf, firstPlace, commentPlace, isLaidOut, tagsOf}
+use Rattle.tags_layout.specs.Layout.{Tags, signature, partAt, nextPlace, fitsAt, bytesOf, allFit, textsFrom, placeAfter, countOf, firstPlace, commentPlace, isLaidOut, tagsOf}
+use Rattle.tags_layout.specs.Finding.{findText}
+use Rattle.tags_layout.proofs.Fitting.{inside}
 use Rattle.opus_tags.specs.Right.{rightTags, isTags}
-use Rattle.opus_tags.specs.Reading.{readChecks, readTags, findComment, findText}
+use Rattle.opus_tags.specs.Reading.{readChecks, readTags, findComment}
 use Rattle.opus_tags.specs.Statements.{PartsApart, ListingFinds}
-use Rattle.opus_tags.proofs.Fitting.{inside}
 use Rattle.opus_tags.proofs.Finding.{length-texts}
 
 -- ---- n texts from a place on

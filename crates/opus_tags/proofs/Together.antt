@@ -11,10 +11,10 @@ use Rattle.octets.specs.Numbers.{octets, number}
 use Rattle.octets.proofs.Tests.{both}
 use Rattle.octets.proofs.Fields.{field}
 use Rattle.octets.proofs.Beginnings.{begins-take}
-use Rattle.opus_tags.specs.Layout.{signature, partAt, nextPlace, fitsAt, bytesOf, allFit, textsFrom, placeAfter, vendorPart, countPlace, countOf, firstPlace, commentPlace, tagsOf}
+use Rattle.tags_layout.specs.Layout.{signature, partAt, nextPlace, fitsAt, bytesOf, allFit, textsFrom, placeAfter, vendorPart, countPlace, countOf, firstPlace, commentPlace, tagsOf}
+use Rattle.tags_layout.proofs.Fitting.{inside}
 use Rattle.opus_tags.specs.Packet.{textBytes, commentsBytes, tagsBytes}
 use Rattle.opus_tags.specs.Statements.{PartsTogether}
-use Rattle.opus_tags.proofs.Fitting.{inside}
 use Rattle.opus_tags.proofs.Finding.{length-texts}
 use Rattle.opus_tags.proofs.Places.{was-read}
 

@@ -6,12 +6,13 @@ use native.Mathlib.Omega.{arith}
 use lib.ListN.{take, drop}
 use Rattle.octets.specs.Octets.{Bytes}
 use Rattle.octets.specs.Numbers.{number}
-use Rattle.opus_tags.specs.declared.Gains.{Gains}
-use Rattle.opus_tags.specs.declared.Gains.the-variants.{Wrong as WrongComment, Seen}
+use Rattle.tags_rules.specs.declared.Gains.{Gains}
+use Rattle.tags_rules.specs.declared.Gains.the-variants.{Wrong as WrongComment, Seen}
+use Rattle.tags_rules.specs.Code.{judged}
+use Rattle.tags_layout.specs.Layout.{fitsAt}
 use Rattle.opus_tags.specs.declared.Walk.{Walk}
 use Rattle.opus_tags.specs.declared.Walk.the-variants.{Wrong, At}
-use Rattle.opus_tags.specs.Layout.{fitsAt}
-use Rattle.opus_tags.specs.Code.{judged, onward, stepped, walked}
+use Rattle.opus_tags.specs.Code.{onward, stepped, walked}
 
 -- ---- one step
 

@@ -1,35 +1,18 @@
 -- What the functions of the walk answer, in the code's words: comments one after the other, with the gains that were seen so far.
 -- Assumes nothing.
 use Prim.Native.Nat.{ℕ, zero, suc}
-use mathlib.Core.Bool.{Bool, true, false, not, _&&_, _||_}
-use mathlib.Core.List.{List, [], _∷_}
+use mathlib.Core.Bool.{Bool, true, false, _&&_}
 use lib.Dec.{leb}
 use lib.ListN.{length}
 use Rattle.octets.specs.Pick.{pick}
 use Rattle.octets.specs.Octets.{Bytes, begins}
 use Rattle.utf8.specs.Characters.{utf8}
-use Rattle.opus_comment.specs.Names.{rightComment, isNamed}
-use Rattle.opus_tags.specs.declared.Gains.{Gains}
-use Rattle.opus_tags.specs.declared.Gains.the-variants.{Wrong as WrongComment, Seen}
+use Rattle.tags_rules.specs.declared.Gains.{Gains}
+use Rattle.tags_rules.specs.declared.Gains.the-variants.{Wrong as WrongComment, Seen}
+use Rattle.tags_rules.specs.Code.{judged}
+use Rattle.tags_layout.specs.Layout.{signature, partAt, nextPlace, fitsAt, bytesOf, vendorPart, firstPlace}
 use Rattle.opus_tags.specs.declared.Walk.{Walk}
 use Rattle.opus_tags.specs.declared.Walk.the-variants.{Wrong, At}
-use Rattle.opus_tags.specs.Layout.{signature, partAt, nextPlace, fitsAt, bytesOf, vendorPart, firstPlace}
-use Rattle.opus_tags.specs.Right.{trackGain, albumGain}
-
--- the comment c is right, and no gain that was seen before
-abbrev pub goesOn : Bytes → Bool → Bool → Bool
-goesOn c track album =
-    rightComment c && (not (track && isNamed trackGain c) && not (album && isNamed albumGain c))
-
-unfoldable pub judged : Bytes → Bool → Bool → Gains
-judged c track album = pick (goesOn c track album) (Seen (track || isNamed trackGain c) (album || isNamed albumGain c)) WrongComment
-
--- the comments are right where these gains were seen before
-unfoldable pub rightFrom : Bool → Bool → List Bytes → Bool
-rightFrom track album [] = true
-rightFrom track album (c ∷ cs) = goesOn c track album && rightFrom (track || isNamed trackGain c) (album || isNamed albumGain c) cs
-
--- ---- reading: a walk over the comments
 
 -- one comment on
 abbrev pub onward : Bytes → ℕ → Gains → Walk

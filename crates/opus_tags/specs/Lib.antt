@@ -1,4 +1,3 @@
-pub mod Layout
 pub mod Right
 pub mod Reading
 pub mod Packet

@@ -3,7 +3,7 @@ use mathlib.Core.List.{List, [], _∷_, _++_}
 use lib.ListN.{length}
 use Rattle.octets.specs.Octets.{Bytes}
 use Rattle.octets.specs.Numbers.{octets}
-use Rattle.opus_tags.specs.Layout.{signature, Tags}
+use Rattle.tags_layout.specs.Layout.{signature, Tags}
 
 -- the bytes of a text behind its length
 unfoldable pub textBytes : Bytes → Bytes

@@ -13,12 +13,10 @@ use Rattle.refusal.specs.Told.{Told, gives, refuses, decided}
 use Rattle.refusal.specs.Numbers.{numberOf}
 use Rattle.opus_comment.specs.Names.{valueOf}
 use Rattle.opus_comment.specs.Gain.{gainOf, gainChecks}
-use Rattle.opus_tags.specs.declared.Part.{Part}
+use Rattle.tags_layout.specs.declared.Part.{Part}
+use Rattle.tags_layout.specs.Layout.{Tags, partAt, bytesOf, vendorPart, countOf, commentPlace, tagsOf}
 use Rattle.opus_tags.specs.declared.TagsRead.{TagsRead}
 use Rattle.opus_tags.specs.declared.TagsRead.the-variants.{Count, Refused}
-use Rattle.opus_tags.specs.declared.PartRead.{PartRead}
-use Rattle.opus_tags.specs.declared.PartRead.the-variants.{Found, Refused as RefusedPart}
-use Rattle.opus_tags.specs.Layout.{Tags, partAt, fitsAt, bytesOf, vendorPart, countOf, commentPlace, tagsOf}
 use Rattle.opus_tags.specs.Right.{isTags}
 
 abbrev pub readChecks : Bytes → List Check
@@ -50,10 +48,6 @@ abbrev pub partIn : Bytes → Told Part → Bytes
 partIn b (gives p) = bytesOf b p
 partIn b (refuses n) = []
 
--- the text whose length stands at this place, for a listing that goes from each comment to the next
-unfoldable pub findText : Bytes → ℕ → Told Part
-findText b at = decided (firstOf (BadTags when not (fitsAt b at) ∷ [])) (partAt b at)
-
 -- ---- the gain in comment i
 
 abbrev pub commentOf : Bytes → ℕ → Bytes
@@ -62,12 +56,8 @@ commentOf b i = bytesOf b (commentPart b i)
 unfoldable pub readGain : Bytes → ℕ → Told ℤ
 readGain b i = decided (firstOf (findChecks b i ++ gainChecks (commentOf b i))) (gainOf (valueOf (commentOf b i)))
 
--- ---- what the code's answers tell
+-- ---- what the code's answer tells
 
 abbrev pub toldCount : TagsRead → Told ℕ
 toldCount (Count n) = gives n
 toldCount (Refused r) = refuses (numberOf r)
-
-abbrev pub toldPart : PartRead → Told Part
-toldPart (Found p) = gives p
-toldPart (RefusedPart r) = refuses (numberOf r)

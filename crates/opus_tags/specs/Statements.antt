@@ -5,9 +5,10 @@ use mathlib.Core.List.{[]}
 use lib.ListN.{length, getD}
 use Rattle.octets.specs.Octets.{Bytes, Octets}
 use Rattle.refusal.specs.Told.{gives}
-use Rattle.opus_tags.specs.declared.Part.{Part}
-use Rattle.opus_tags.specs.Layout.{Tags, bytesOf, vendorPart, commentPlace}
-use Rattle.opus_tags.specs.Reading.{readTags, commentCount, commentPart, findComment, findText}
+use Rattle.tags_layout.specs.declared.Part.{Part}
+use Rattle.tags_layout.specs.Layout.{Tags, bytesOf, vendorPart, commentPlace}
+use Rattle.tags_layout.specs.Finding.{findText}
+use Rattle.opus_tags.specs.Reading.{readTags, commentCount, commentPart, findComment}
 use Rattle.opus_tags.specs.Packet.{tagsBytes}
 
 -- the bytes of a packet that was read are its parts put together again

@@ -1,32 +1,17 @@
-// The comment header of an Ogg Opus stream (RFC 7845, 5.2): reading, and where its parts lie.
+// The comment header of an Ogg Opus stream (RFC 7845, 5.2): checking it, and where its vendor and each comment lie.
 ghost use mathlib.Core.Path.{_≡_};
 ghost use Rattle.refusal.specs.Told.{retold};
-ghost use Rattle.opus_tags.specs.Layout.{fitsAt, countOf, firstPlace};
+ghost use Rattle.tags_layout.specs.Finding.{toldPart};
 ghost use Rattle.opus_tags.specs.Right.{isTags};
-ghost use Rattle.opus_tags.specs.Reading.{readTags, commentCount, findVendor, findComment, findText, toldCount, toldPart};
-ghost use Rattle.opus_tags.specs.Code.{judged, stepped, walked, begun, isRight, placeIn};
+ghost use Rattle.opus_tags.specs.Reading.{readTags, commentCount, findVendor, findComment, toldCount};
+ghost use Rattle.opus_tags.specs.Code.{stepped, walked, begun, isRight, placeIn};
 use refusal::Refusal;
-
-// A part of a packet: where it starts, and how many bytes it has.
-pub struct Part {
-    pub start: usize,
-    pub size: usize,
-}
+use tags_layout::PartRead;
+use tags_rules::Gains;
 
 pub enum TagsRead {
     Count(usize),
     Refused(Refusal),
-}
-
-pub enum PartRead {
-    Found(Part),
-    Refused(Refusal),
-}
-
-// Which of the two gains were seen, up to a comment.
-pub enum Gains {
-    Wrong,
-    Seen(bool, bool),
 }
 
 // A walk over the comments: the place of the next one, and the gains that were seen.
@@ -35,63 +20,17 @@ enum Walk {
     At(usize, bool, bool),
 }
 
-// One comment more. A gain may stand in one comment only.
-pub fn judge(c: &[u8], track: bool, album: bool) -> Gains
-    ensures { λ r. ⌜ r ≡ judged (now (c .entry)) track album ⌝ }
-{
-    if !opus_comment::right_comment(c) {
-        return Gains::Wrong;
-    }
-    let is_track = opus_comment::is_named(b"R128_TRACK_GAIN", c);
-    let is_album = opus_comment::is_named(b"R128_ALBUM_GAIN", c);
-    if track & is_track {
-        return Gains::Wrong;
-    }
-    if album & is_album {
-        return Gains::Wrong;
-    }
-    Gains::Seen(track | is_track, album | is_album)
-}
-
-// Whether a text behind its length at this place lies inside the packet.
-fn fits_at(b: &[u8], at: usize) -> bool
-    ensures { λ r. ⌜ r ≡ fitsAt (now (b .entry)) at ⌝ }
-{
-    if b.len() < at {
-        return false;
-    }
-    if b.len() - at < 4 {
-        return false;
-    }
-    number_reader::number32(b, at) as usize <= b.len() - at - 4
-}
-
-// Where the text lies whose length stands at this place: a listing goes from the end of each comment to the next. 14: the
-// length, or the text, passes the end.
-pub fn find_text(b: &[u8], at: usize) -> PartRead
-    ensures { λ r. ⌜ toldPart r ≡ findText (now (b .entry)) at ⌝ }
-{
-    if !fits_at(b, at) {
-        return PartRead::Refused(Refusal::BadTags);
-    }
-    let size = number_reader::number32(b, at) as usize;
-    PartRead::Found(Part {
-        start: at + 4,
-        size,
-    })
-}
-
 // One comment on from this place.
 fn step(b: &[u8], at: usize, track: bool, album: bool) -> Walk
     ensures { λ r. ⌜ r ≡ stepped (now (b .entry)) (Walk.At at track album) ⌝ }
 {
-    if !fits_at(b, at) {
+    if !tags_layout::fits_at(b, at) {
         return Walk::Wrong;
     }
     let size = number_reader::number32(b, at) as usize;
     let start = at + 4;
     let next = start + size;
-    let Gains::Seen(t, a) = judge(octets::part_of(b, start, size), track, album) else {
+    let Gains::Seen(t, a) = tags_rules::judge(octets::part_of(b, start, size), track, album) else {
         return Walk::Wrong;
     };
     Walk::At(next, t, a)
@@ -120,22 +59,6 @@ fn walk_by(b: &[u8], from: Walk, n: usize) -> Walk
     Walk::At(at, track, album)
 }
 
-// How many comments the packet says that it has.
-fn count_of(b: &[u8]) -> usize
-    ensures { λ r. ⌜ r ≡ countOf (now (b .entry)) ⌝ }
-{
-    let vendor = number_reader::number32(b, 8) as usize;
-    number_reader::number32(b, 12 + vendor) as usize
-}
-
-// The place where the length of the first comment stands, for a listing. It may lie past the end where the packet is wrong.
-pub fn first_comment(b: &[u8]) -> usize
-    ensures { λ r. ⌜ r ≡ firstPlace (now (b .entry)) ⌝ }
-{
-    let size = number_reader::number32(b, 8) as usize;
-    16 + size
-}
-
 // Up to the first comment.
 fn begin(b: &[u8]) -> Walk
     ensures { λ r. ⌜ r ≡ begun (now (b .entry)) ⌝ }
@@ -143,14 +66,14 @@ fn begin(b: &[u8]) -> Walk
     if !octets::begins_with(b, b"OpusTags") {
         return Walk::Wrong;
     }
-    if !fits_at(b, 8) {
+    if !tags_layout::fits_at(b, 8) {
         return Walk::Wrong;
     }
     let vendor = number_reader::number32(b, 8) as usize;
     if !utf8::is_utf8(octets::part_of(b, 12, vendor)) {
         return Walk::Wrong;
     }
-    let first = first_comment(b);
+    let first = tags_layout::first_comment(b);
     if b.len() < first {
         return Walk::Wrong;
     }
@@ -180,7 +103,7 @@ fn is_tags(b: &[u8]) -> bool
     ensures { λ r. ⌜ r ≡ isTags (now (b .entry)) ⌝ }
 {
     let start = begin(b);
-    let n = count_of(b);
+    let n = tags_layout::count_of(b);
     is_right(walk_by(b, start, n))
 }
 
@@ -191,7 +114,7 @@ pub fn read_tags(b: &[u8]) -> TagsRead
     if !is_tags(b) {
         return TagsRead::Refused(Refusal::BadTags);
     }
-    TagsRead::Count(count_of(b))
+    TagsRead::Count(tags_layout::count_of(b))
 }
 
 // Where the vendor lies. 14: the packet is no comment header.
@@ -201,7 +124,7 @@ pub fn find_vendor(b: &[u8]) -> PartRead
     if !is_tags(b) {
         return PartRead::Refused(Refusal::BadTags);
     }
-    find_text(b, 8)
+    tags_layout::find_text(b, 8)
 }
 
 // Where comment i lies. The comments before it and those behind it are walked once each. 14: the packet is no comment
@@ -210,7 +133,7 @@ pub fn find_comment(b: &[u8], i: usize) -> PartRead
     ensures { λ r. ⌜ toldPart r ≡ findComment (now (b .entry)) i ⌝ }
 {
     let start = begin(b);
-    let n = count_of(b);
+    let n = tags_layout::count_of(b);
     let before = octets::least(i, n);
     let here = walk_by(b, start, before);
     let end = walk_by(b, here, n - before);
@@ -220,5 +143,5 @@ pub fn find_comment(b: &[u8], i: usize) -> PartRead
     if n <= i {
         return PartRead::Refused(Refusal::NoSuchComment);
     }
-    find_text(b, place_in(here))
+    tags_layout::find_text(b, place_in(here))
 }

@@ -10,7 +10,7 @@ ghost use Rattle.stream.specs.Rules.{wrongFlags, fieldChecks};
 ghost use Rattle.stream.specs.Feed.{view};
 ghost use Rattle.page_checks.specs.Checked.{found, isPending};
 use granule::Position;
-use ogg_page::PageHeader;
+use page_layout::PageHeader;
 use refusal::Refusal;
 use stream::Core;
 use stream::Pending;

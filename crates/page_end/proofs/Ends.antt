@@ -9,10 +9,10 @@ use lib.Dec.{ltb, eqb}
 use lib.ListN.{length, drop, length-drop}
 use Rattle.octets.specs.Pick.{pick}
 use Rattle.octets.specs.Octets.{Bytes}
-use Rattle.ogg_page.specs.declared.Extent.the-variants.{Ends, Short, NoPage}
-use Rattle.ogg_page.specs.Page.{hasCapture, versionOf, countOf, sizeOf}
-use Rattle.ogg_page.specs.Reading.{isOnePage}
-use Rattle.ogg_page.specs.Extent.{extentIn, pageExtent}
+use Rattle.page_layout.specs.Page.{hasCapture, versionOf, countOf}
+use Rattle.page_size.specs.declared.Extent.the-variants.{Ends, Short, NoPage}
+use Rattle.page_size.specs.Size.{sizeOf, isOnePage}
+use Rattle.page_size.specs.Extent.{extentIn, pageExtent}
 use Rattle.page_end.specs.End.{endIn, endAt}
 use Rattle.page_end.specs.Statements.{EndInside, CutIsNoPage}
 

@@ -5,9 +5,9 @@ use lib.Dec.{ltb}
 use lib.ListN.{length}
 use Rattle.octets.specs.Pick.{pick}
 use Rattle.octets.specs.Octets.{Bytes}
-use Rattle.ogg_page.specs.declared.Extent.{Extent}
-use Rattle.ogg_page.specs.declared.Extent.the-variants.{Ends, Short, NoPage}
-use Rattle.ogg_page.specs.Extent.{pageExtent}
+use Rattle.page_size.specs.declared.Extent.{Extent}
+use Rattle.page_size.specs.declared.Extent.the-variants.{Ends, Short, NoPage}
+use Rattle.page_size.specs.Extent.{pageExtent}
 use Rattle.page_end.specs.declared.End.{End}
 use Rattle.page_end.specs.declared.End.the-variants.{At, Cut}
 

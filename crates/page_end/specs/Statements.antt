@@ -5,7 +5,7 @@ use mathlib.Core.Bool.{false}
 use mathlib.Core.Option.{none, some}
 use lib.ListN.{length, drop}
 use Rattle.octets.specs.Octets.{Bytes}
-use Rattle.ogg_page.specs.Reading.{isOnePage}
+use Rattle.page_size.specs.Size.{isOnePage}
 use Rattle.page_end.specs.End.{endAt}
 
 -- the end is behind the start, and inside the buffer

@@ -1,7 +1,7 @@
 // Where the page that starts at a place of a buffer ends, for callers who feed the pages of a buffer one by one.
 ghost use mathlib.Core.Path.{_≡_};
 ghost use Rattle.page_end.specs.End.{endAt, foundEnd};
-use ogg_page::Extent;
+use page_size::Extent;
 
 // The place behind the page, or the page is not whole in the buffer.
 pub enum End {
@@ -13,7 +13,7 @@ pub enum End {
 pub fn end_at(buffer: &[u8], at: usize) -> End
     ensures { λ r. ⌜ foundEnd r ≡ endAt (now (buffer .entry)) at ⌝ }
 {
-    match ogg_page::page_extent(buffer, at) {
+    match page_size::page_extent(buffer, at) {
         Extent::Ends(end) => {
             if end > buffer.len() {
                 return End::Cut;

@@ -4,7 +4,7 @@ ghost use Prim.Native.Nat.{_≤_};
 ghost use lib.ListN.{length};
 ghost use Rattle.octets.specs.Octets.{copied};
 ghost use Rattle.page_writer.specs.Writing.{sealed, startOf, pageBytes, pageSize, Wrote};
-use ogg_page::PageHeader;
+use page_layout::PageHeader;
 use refusal::Refusal;
 
 pub enum PageWritten {

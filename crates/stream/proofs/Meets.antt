@@ -16,7 +16,8 @@ use Rattle.ogg_crc.specs.Crc.{pageCrc}
 use Rattle.page_writer.specs.Writing.{startOf}
 use Rattle.head_fields.specs.declared.Head.{Head}
 use Rattle.opus_head.specs.Fields.{streamsOf, headOf as fieldsOf}
-use Rattle.opus_frames.specs.Frames.{configSamples, frameSamples, coded, codedTimes, paddingFrom}
+use Rattle.opus_toc.specs.Toc.{configSamples, frameSamples}
+use Rattle.opus_frames.specs.Frames.{coded, codedTimes, paddingFrom}
 use Rattle.opus_frames.specs.Packet.{countedShape, shapeOf, parse}
 use Rattle.opus_packet.specs.Streams.{lengthsOf as packetLengths}
 use Rattle.granule.specs.Samples.{tally}

@@ -14,7 +14,7 @@ use Rattle.octets.proofs.Parts.{octets-take, octets-drop}
 use Rattle.refusal.specs.declared.Refusal.the-variants.{IllegalPacket, MixedLengths}
 use Rattle.refusal.specs.Checks.{firstOf}
 use Rattle.refusal.specs.Told.{Told, gives, refuses, decided}
-use Rattle.ogg_page.specs.Page.{bodyOf, countOf}
+use Rattle.page_layout.specs.Page.{bodyOf, countOf}
 use Rattle.lacing.specs.Lacing.{cutFrom}
 use Rattle.ogg_page.specs.Reading.{readPage}
 use Rattle.head_fields.specs.declared.Head.{Head}

@@ -9,7 +9,7 @@ use Rattle.octets.specs.Pick.{pick}
 use Rattle.octets.specs.Octets.{Bytes, Octets}
 use Rattle.refusal.specs.Told.{gives, refuses}
 use Rattle.ogg_crc.specs.Crc.{pageCrc}
-use Rattle.ogg_page.specs.declared.PageHeader.{PageHeader}
+use Rattle.page_layout.specs.declared.PageHeader.{PageHeader}
 use Rattle.page_writer.specs.Writing.{pageSize, writeOut}
 use Rattle.granule.specs.declared.Position.the-variants.{At}
 use Rattle.stream.specs.declared.Phase.the-variants.{Audio}

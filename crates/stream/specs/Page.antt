@@ -7,8 +7,8 @@ use mathlib.Core.Option.{Option, none, some}
 use lib.Dec.{ltb, eqb}
 use Rattle.octets.specs.Pick.{pick}
 use Rattle.octets.specs.Octets.{Bytes}
-use Rattle.ogg_page.specs.declared.PageHeader.{PageHeader}
-use Rattle.ogg_page.specs.Page.{headerOf, lacingOf, bodyOf}
+use Rattle.page_layout.specs.declared.PageHeader.{PageHeader}
+use Rattle.page_layout.specs.Page.{headerOf, lacingOf, bodyOf}
 use Rattle.lacing.specs.Lacing.{cutFrom, unfinishedFrom}
 
 pub record Page : Type 0 where

@@ -4,8 +4,8 @@ use Prim.Native.Nat.{ℕ, _-_}
 use mathlib.Core.Bool.{Bool, not}
 use lib.Dec.{eqb}
 use Rattle.octets.specs.Octets.{Bytes}
-use Rattle.ogg_page.specs.Page.{checksumOf}
-use Rattle.ogg_page.specs.Reading.{isOnePage}
+use Rattle.page_layout.specs.Page.{checksumOf}
+use Rattle.page_size.specs.Size.{isOnePage}
 use Rattle.head_fields.specs.declared.Head.{Head}
 use Rattle.opus_head.specs.Fields.{headOf}
 use Rattle.head_fields.specs.Right.{rightMapping}

@@ -10,7 +10,7 @@ use Rattle.refusal.specs.Checks.{Check, _when_, firstOf}
 use Rattle.refusal.specs.Told.{gives, refuses, decided}
 use Rattle.ogg_page.specs.Reading.{readPage}
 use Rattle.opus_head.specs.Reading.{readHead}
-use Rattle.opus_tags.specs.Layout.{tagsOf}
+use Rattle.tags_layout.specs.Layout.{tagsOf}
 use Rattle.opus_tags.specs.Reading.{readTags}
 use Rattle.opus_packet.specs.Streams.{readPacket}
 use Rattle.granule.specs.declared.Position.the-variants.{Unset}

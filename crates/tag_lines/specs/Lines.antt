@@ -10,7 +10,7 @@ use Rattle.lines.specs.Decimal.{decimal}
 use Rattle.lines.specs.Lines.{space, lineFeed}
 use Rattle.opus_comment.specs.Names.{isNamed}
 use Rattle.opus_comment.specs.Gain.{commentGain}
-use Rattle.opus_tags.specs.Right.{trackGain, albumGain}
+use Rattle.tags_rules.specs.Right.{trackGain, albumGain}
 use Rattle.number_text.specs.Numbers.{signedDecimal, decibels}
 use Rattle.escapes.specs.Escape.{escaped}
 

@@ -112,7 +112,7 @@ fn feed_page(p: Progress, page: &[u8], carry: &mut [u8]) -> Progress {
     let mut sizes = [0u64; 255];
     let mut kept = [0u64; 255];
     let fed = reader::feed(reader, page, carry, &mut ends, &mut sizes, &mut kept);
-    fed_page(p, fed, ogg_page::body_of(page))
+    fed_page(p, fed, page_layout::body_of(page))
 }
 
 // At the end of the input: bytes of a page that is not whole are fed as they stand.

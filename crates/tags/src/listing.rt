@@ -1,9 +1,9 @@
 // Listing the two headers.
 use super::write;
 use head_fields::Head;
-use opus_tags::Part;
-use opus_tags::PartRead;
 use opus_tags::TagsRead;
+use tags_layout::Part;
+use tags_layout::PartRead;
 
 // How far the listing of comments has come: where the next one's length stands in the packet, how many bytes of the output
 // buffer are filled, and whether it goes on.
@@ -29,7 +29,7 @@ fn put_streams(out: &mut [u8], at: usize, head: Head) -> usize {
 
 // The text whose length stands at this place; empty where it passes the end.
 fn part_at(packet: &[u8], place: usize) -> Part {
-    match opus_tags::find_text(packet, place) {
+    match tags_layout::find_text(packet, place) {
         PartRead::Found(p) => p,
         PartRead::Refused(_) => Part { start: 0, size: 0 },
     }
@@ -96,7 +96,7 @@ fn list_in(out: &mut [u8], head: Head, packet: &[u8]) {
     let at = put_headers(out, head, packet);
     let filled = tag_lines::put_number(out, at, b"comments ", n as u64);
     let first = Listing {
-        place: opus_tags::first_comment(packet),
+        place: tags_layout::first_comment(packet),
         filled,
         goes_on: true,
     };

@@ -2,9 +2,10 @@
 ghost use mathlib.Core.Path.{_≡_};
 ghost use Rattle.refusal.specs.Told.{numberIn};
 ghost use Rattle.opus_comment.specs.Gain.{toldGain};
-ghost use Rattle.opus_tags.specs.Reading.{findVendor, findComment, partIn, readGain, toldPart};
+ghost use Rattle.tags_layout.specs.Finding.{toldPart};
+ghost use Rattle.opus_tags.specs.Reading.{findVendor, findComment, partIn, readGain};
 use opus_comment::GainRead;
-use opus_tags::PartRead;
+use tags_layout::PartRead;
 
 // The part that was found, or an empty one.
 fn part_in(b: &[u8], found: PartRead) -> &[u8]

@@ -11,12 +11,12 @@ use lib.ListN.{length, getD, take, drop, drop-of-length-le}
 use lib.Seq.{drop-cons, drop-drop}
 use Rattle.octets.specs.Octets.{Bytes, total}
 use Rattle.opus_comment.specs.Names.{isNamed}
-use Rattle.opus_tags.specs.declared.Gains.the-variants.{Wrong, Seen}
-use Rattle.opus_tags.specs.Right.{trackGain, albumGain}
+use Rattle.tags_rules.specs.declared.Gains.the-variants.{Wrong, Seen}
+use Rattle.tags_rules.specs.Right.{trackGain, albumGain}
 use Rattle.tags_writer.specs.Writing.{cutBy}
-use Rattle.opus_tags.specs.Code.{goesOn, judged, rightFrom}
+use Rattle.tags_rules.specs.Code.{goesOn, judged, rightFrom}
 use Rattle.tags_writer.specs.Code.{rightLengths}
-use Rattle.opus_tags.proofs.Counting.{and-false}
+use Rattle.tags_rules.proofs.Counting.{and-false}
 
 -- ---- a comment that was judged
 

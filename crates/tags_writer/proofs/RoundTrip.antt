@@ -15,7 +15,7 @@ use Rattle.refusal.specs.Checks.{firstOf}
 use Rattle.refusal.specs.Told.{gives}
 use Rattle.refusal.proofs.Checks.{no-refusal, passed}
 use Rattle.octets.proofs.Beginnings.{begins-append}
-use Rattle.opus_tags.specs.Layout.{Tags, signature, partAt, nextPlace, fitsAt, bytesOf, allFit, textsFrom, placeAfter, vendorPart, countPlace, countOf, firstPlace, commentPlace, isLaidOut, tagsOf}
+use Rattle.tags_layout.specs.Layout.{Tags, signature, partAt, nextPlace, fitsAt, bytesOf, allFit, textsFrom, placeAfter, vendorPart, countPlace, countOf, firstPlace, commentPlace, isLaidOut, tagsOf}
 use Rattle.opus_tags.specs.Right.{rightTags, isTags}
 use Rattle.opus_tags.specs.Reading.{readTags}
 use Rattle.opus_tags.specs.Packet.{textBytes, commentsBytes, tagsBytes}

@@ -15,11 +15,12 @@ use Rattle.refusal.specs.declared.Refusal.the-variants.{ShortOutput, UnfitField
 use Rattle.refusal.specs.Checks.{firstOf}
 use Rattle.refusal.specs.Told.{gives}
 use Rattle.tags_writer.specs.declared.TagsWritten.the-variants.{Bytes as Written, Refused}
-use Rattle.opus_tags.specs.Right.{rightComments, rightTags}
+use Rattle.tags_rules.specs.Right.{rightComments}
+use Rattle.opus_tags.specs.Right.{rightTags}
 use Rattle.tags_writer.specs.Writing.{cutBy, given, packetOf, writeChecks, writeTold, writeOut, Wrote}
-use Rattle.opus_tags.specs.Code.{rightFrom}
+use Rattle.tags_rules.specs.Code.{rightFrom}
 use Rattle.tags_writer.specs.Code.{rightLengths, rightFields}
-use Rattle.opus_tags.proofs.Counting.{and-false, right-from}
+use Rattle.tags_rules.proofs.Counting.{and-false, right-from}
 use Rattle.tags_writer.proofs.Laying.{length-packet}
 
 module _ (vendor text : Bytes) (ns : List ℕ) where

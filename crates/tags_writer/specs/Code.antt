@@ -6,7 +6,7 @@ use lib.Dec.{leb, eqb}
 use lib.ListN.{length}
 use Rattle.octets.specs.Octets.{Bytes, total}
 use Rattle.opus_tags.specs.Right.{rightTags}
-use Rattle.opus_tags.specs.Code.{rightFrom}
+use Rattle.tags_rules.specs.Code.{rightFrom}
 use Rattle.tags_writer.specs.Writing.{cutBy, given, packetOf}
 
 -- the lengths sum to the text, and the comments are right

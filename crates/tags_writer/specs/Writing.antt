@@ -13,7 +13,7 @@ use Rattle.refusal.specs.declared.Refusal.the-variants.{ShortOutput, UnfitField
 use Rattle.refusal.specs.Checks.{Check, _when_, firstOf}
 use Rattle.refusal.specs.Told.{Told, gives, refuses, decided}
 use Rattle.refusal.specs.Numbers.{numberOf}
-use Rattle.opus_tags.specs.Layout.{Tags}
+use Rattle.tags_layout.specs.Layout.{Tags}
 use Rattle.opus_tags.specs.Right.{rightTags}
 use Rattle.opus_tags.specs.Packet.{tagsBytes}
 use Rattle.tags_writer.specs.declared.TagsWritten.{TagsWritten}

@@ -6,8 +6,8 @@ ghost use Rattle.octets.specs.Octets.{total, copied};
 ghost use Rattle.opus_tags.specs.Packet.{textBytes, commentsBytes};
 ghost use Rattle.tags_writer.specs.Writing.{cutBy, packetOf, Wrote};
 ghost use Rattle.tags_writer.specs.Code.{rightLengths, rightFields};
-use opus_tags::Gains;
 use refusal::Refusal;
+use tags_rules::Gains;
 
 pub enum TagsWritten {
     Bytes(usize),
@@ -27,7 +27,7 @@ fn right_lengths(text: &[u8], lengths: &[u64]) -> bool
         if text.len() - at < size {
             return false;
         }
-        let Gains::Seen(t, a) = opus_tags::judge(octets::part_of(text, at, size), track, album)
+        let Gains::Seen(t, a) = tags_rules::judge(octets::part_of(text, at, size), track, album)
         else {
             return false;
         };

@@ -5,7 +5,7 @@ use native.Mathlib.Omega.{arith}
 use borrow.Author.Needs.{needs}
 use denote.Ref.{now}
 use lib.ListN.{length, drop, length-take}
-use Rattle.ogg_page.specs.Page.{countOf, lacingOf}
+use Rattle.page_layout.specs.Page.{countOf, lacingOf}
 use Rattle.octets.specs.Octets.{Bytes}
 use Rattle.stream.specs.Readings.{readings}
 use Rattle.stream.specs.Feed.{Lent, lentOf}

@@ -2,7 +2,7 @@
 use mathlib.Core.Path.{_≡_, sym, ap, _∙_}
 use borrow.Author.Needs.{needs}
 use Rattle.ogg_page.specs.declared.PageRead.the-variants.{Page, Refused}
-use Rattle.ogg_page.specs.Page.{lacingOf, bodyOf}
+use Rattle.page_layout.specs.Page.{lacingOf, bodyOf}
 use Rattle.ogg_page.specs.Reading.{toldRead}
 use Rattle.page_checks.specs.Checked.{found}
 use Rattle.core_feed.proofs.Pages.{not-a-page, page-early, page-awaited}

@@ -4,8 +4,8 @@ use mathlib.Core.List.{List}
 use Prim.Native.Nat.{ℕ}
 use borrow.Author.Needs.{needs}
 use Rattle.refusal.specs.Told.{Told, retold}
-use Rattle.opus_tags.specs.declared.PartRead.{PartRead}
-use Rattle.opus_tags.specs.Reading.{toldPart}
+use Rattle.tags_layout.specs.declared.PartRead.{PartRead}
+use Rattle.tags_layout.specs.Finding.{toldPart}
 use Rattle.embulgri.specs.Answers.{partNumbers}
 use Rattle.embulgri.proofs.Answers.{answered, refused}
 use Rattle.embulgri.proofs.store_part.Statement.{statement}

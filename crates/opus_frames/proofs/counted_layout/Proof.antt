@@ -11,7 +11,8 @@ use Rattle.octets.specs.Octets.{Bytes}
 use Rattle.opus_frames.specs.Frames.{Read}
 use Rattle.opus_frames.specs.Packet.{countOf, isVariable, countedShape}
 use Rattle.opus_frames.specs.Code.{toldFound, plainOf}
-use Rattle.opus_frames.proofs.Samples.{frame-length, product}
+use Rattle.opus_toc.proofs.Samples.{frame-length}
+use Rattle.opus_frames.proofs.Samples.{product}
 use Rattle.opus_frames.proofs.Shapes.{some, bounded, no-count, no-frames, too-much, unpadded, with-padding, paddedBy}
 use Rattle.opus_frames.proofs.counted_layout.Statement.{statement}
 use Rattle.opus_frames.proofs.counted_layout.Tie as tie

@@ -7,10 +7,12 @@ use denote.Ref.{now}
 use lib.Dec.{lit<}
 use lib.ListN.{length, getD, drop}
 use Rattle.octets.specs.Octets.{Bytes}
-use Rattle.opus_frames.specs.Frames.{frameSamples, value}
+use Rattle.opus_toc.specs.Toc.{frameSamples}
+use Rattle.opus_frames.specs.Frames.{value}
 use Rattle.opus_frames.specs.Packet.{parse}
 use Rattle.opus_frames.specs.Code.{outline}
-use Rattle.opus_frames.proofs.Samples.{frame-length, product}
+use Rattle.opus_toc.proofs.Samples.{frame-length}
+use Rattle.opus_frames.proofs.Samples.{product}
 use Rattle.opus_frames.proofs.CodedLengths.{missing, found}
 use Rattle.opus_packet.proofs.Agreement.{no-length, its-length}
 use Rattle.opus_packet.proofs.packet_samples.Statement.{statement}

@@ -3,7 +3,7 @@ use mathlib.Core.Path.{sym, ap, _∙_}
 use borrow.Author.Needs.{needs}
 use denote.Ref.{now}
 use Rattle.refusal.specs.Told.{gives}
-use Rattle.opus_frames.specs.Frames.{frameSamples}
+use Rattle.opus_toc.specs.Toc.{frameSamples}
 use Rattle.opus_packet.specs.Streams.{readPacket}
 use Rattle.opus_packet.proofs.Single.{reads-single}
 use Rattle.opus_packet.proofs.read_packet_quick.Statement.{statement}

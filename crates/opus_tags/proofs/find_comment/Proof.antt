@@ -4,8 +4,9 @@ use native.Mathlib.Omega.{arith}
 use borrow.Author.Needs.{needs}
 use denote.Ref.{now}
 use Rattle.octets.proofs.Tests.{failed, held}
+use Rattle.tags_layout.specs.Finding.{findText}
 use Rattle.opus_tags.specs.Right.{isTags}
-use Rattle.opus_tags.specs.Reading.{findText, findComment}
+use Rattle.opus_tags.specs.Reading.{findComment}
 use Rattle.opus_tags.proofs.Finding.{not-found, no-such-comment, end-decides, comment-found}
 use Rattle.opus_tags.proofs.find_comment.Statement.{statement}
 use Rattle.opus_tags.proofs.find_comment.Tie as tie

@@ -5,8 +5,8 @@ use borrow.Author.Needs.{needs}
 use denote.Ref.{now}
 use lib.ListN.{length}
 use Rattle.octets.proofs.Tests.{failed, held}
-use Rattle.opus_tags.specs.Layout.{nextPlace}
-use Rattle.opus_tags.proofs.Fitting.{inside}
+use Rattle.tags_layout.specs.Layout.{nextPlace}
+use Rattle.tags_layout.proofs.Fitting.{inside}
 use Rattle.opus_tags.proofs.Walking.{no-text, stops, goes-on}
 use Rattle.opus_tags.proofs.step.Statement.{statement}
 use Rattle.opus_tags.proofs.step.Tie as tie

@@ -2,8 +2,8 @@
 use mathlib.Core.Path.{sym, ap, _∙_}
 use borrow.Author.Needs.{needs}
 use Rattle.refusal.specs.Told.{Told, numberIn}
-use Rattle.opus_tags.specs.declared.Part.{Part}
-use Rattle.opus_tags.specs.Reading.{toldPart}
+use Rattle.tags_layout.specs.declared.Part.{Part}
+use Rattle.tags_layout.specs.Finding.{toldPart}
 use Rattle.tags_parts.proofs.comment_number.Statement.{statement}
 use Rattle.tags_parts.proofs.comment_number.Tie as tie
 

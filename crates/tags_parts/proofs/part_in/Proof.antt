@@ -2,8 +2,9 @@
 use mathlib.Core.Path.{sym, ap, _∙_}
 use borrow.Author.Needs.{needs}
 use denote.Ref.{now}
-use Rattle.opus_tags.specs.declared.PartRead.{PartRead}
-use Rattle.opus_tags.specs.Reading.{partIn, toldPart}
+use Rattle.tags_layout.specs.declared.PartRead.{PartRead}
+use Rattle.tags_layout.specs.Finding.{toldPart}
+use Rattle.opus_tags.specs.Reading.{partIn}
 use Rattle.tags_parts.proofs.part_in.Statement.{statement}
 use Rattle.tags_parts.proofs.part_in.Tie as tie
 

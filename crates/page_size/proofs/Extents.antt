@@ -1,0 +1,28 @@
+-- The ways of telling a page's extent, by its tests. Assumes nothing.
+use mathlib.Core.Path.{_≡_}
+use mathlib.Core.Bool.{true, false}
+use Prim.Native.Nat.{ℕ, _+_, _≤_, _<_}
+use borrow.Author.Tests.{lt-ltb, le-ltb}
+use lib.ListN.{length}
+use Rattle.octets.specs.Octets.{Bytes}
+use Rattle.page_layout.specs.Page.{hasCapture, countOf}
+use Rattle.page_size.specs.declared.Extent.the-variants.{Ends, Short, NoPage}
+use Rattle.page_size.specs.Size.{sizeOf}
+use Rattle.page_size.specs.Extent.{extentIn}
+
+module _ (s : Bytes) (at : ℕ) where
+  pub short-header : length s < 27 → extentIn s at ≡ Short
+  unfolding extentIn
+  short-header h = rw (lt-ltb (length s) 27 h)
+
+  pub no-page : 27 ≤ length s → hasCapture s ≡ false → extentIn s at ≡ NoPage
+  unfolding extentIn
+  no-page h n = rw (le-ltb (length s) 27 h, n)
+
+  pub short-lacing : 27 ≤ length s → hasCapture s ≡ true → length s < 27 + countOf s → extentIn s at ≡ Short
+  unfolding extentIn
+  short-lacing h y l = rw (le-ltb (length s) 27 h, y, lt-ltb (length s) (27 + countOf s) l)
+
+  pub ends-at : 27 ≤ length s → hasCapture s ≡ true → 27 + countOf s ≤ length s → extentIn s at ≡ Ends (at + sizeOf s)
+  unfolding extentIn
+  ends-at h y l = rw (le-ltb (length s) 27 h, y, le-ltb (length s) (27 + countOf s) l)

@@ -1,0 +1,3 @@
+pub mod Shapes
+pub mod Extents
+pub mod Whole

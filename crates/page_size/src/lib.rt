@@ -1,0 +1,77 @@
+// How long an Ogg page is by its lacing values (RFC 3533, 6): where one would end, and whether bytes are exactly one.
+ghost use mathlib.Core.Path.{_≡_};
+ghost use Prim.Native.Nat.{_≤_, _<_, _^_};
+ghost use Rattle.page_layout.specs.Page.{hasCapture};
+ghost use Rattle.page_size.specs.Size.{sizeOf, isOnePage};
+ghost use Rattle.page_size.specs.Extent.{extentIn, pageExtent};
+
+// Where a page would end: at a place of the buffer or past it; not to be told yet, since its header or its lacing values
+// are not all there; or nowhere, since no page starts here.
+pub enum Extent {
+    Ends(usize),
+    Short,
+    NoPage,
+}
+
+// Whether the bytes begin with "OggS".
+fn has_capture(s: &[u8]) -> bool
+    ensures { λ r. ⌜ r ≡ hasCapture (now (s .entry)) ⌝ }
+{
+    if octets::byte_at(s, 0) != 0x4f {
+        return false;
+    }
+    if octets::byte_at(s, 1) != 0x67 {
+        return false;
+    }
+    if octets::byte_at(s, 2) != 0x67 {
+        return false;
+    }
+    octets::byte_at(s, 3) == 0x53
+}
+
+// How long the page is by its lacing values.
+fn size_of(page: &[u8]) -> usize
+    ensures { λ r. ⌜ (r ≡ sizeOf (now (page .entry))) × (r ≤ 65307) ⌝ }
+{
+    27 + octets::wide(octets::byte_at(page, 26)) + lacing::sum_of(page_layout::lacing_of(page))
+}
+
+// Where the page would end that s, the bytes from place `at` of a buffer on, begins with.
+fn extent_in(s: &[u8], at: usize) -> Extent
+    requires { ⌜ at < 2 ^ 63 ⌝ }
+    ensures { λ r. ⌜ r ≡ extentIn (now (s .entry)) at ⌝ }
+{
+    if s.len() < 27 {
+        return Extent::Short;
+    }
+    if !has_capture(s) {
+        return Extent::NoPage;
+    }
+    if s.len() < 27 + octets::wide(octets::byte_at(s, 26)) {
+        return Extent::Short;
+    }
+    Extent::Ends(at + size_of(s))
+}
+
+// Where the page that starts at place `at` of a buffer would end.
+pub fn page_extent(buffer: &[u8], at: usize) -> Extent
+    ensures { λ r. ⌜ r ≡ pageExtent (now (buffer .entry)) at ⌝ }
+{
+    if buffer.len() < at {
+        return Extent::Short;
+    }
+    extent_in(&buffer[at..], at)
+}
+
+// Whether the bytes are exactly one whole page, of version 0. The checksum is not looked at.
+pub fn is_one_page(page: &[u8]) -> bool
+    ensures { λ r. ⌜ r ≡ isOnePage (now (page .entry)) ⌝ }
+{
+    if !has_capture(page) {
+        return false;
+    }
+    if octets::byte_at(page, 4) != 0 {
+        return false;
+    }
+    page.len() == size_of(page)
+}

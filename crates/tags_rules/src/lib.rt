@@ -1,0 +1,27 @@
+// The comments of a comment header together (RFC 7845, 5.2 and 5.2.1): each is right, and neither gain is there twice.
+ghost use mathlib.Core.Path.{_≡_};
+ghost use Rattle.tags_rules.specs.Code.{judged};
+
+// Which of the two gains were seen, up to a comment.
+pub enum Gains {
+    Wrong,
+    Seen(bool, bool),
+}
+
+// One comment more. A gain may stand in one comment only.
+pub fn judge(c: &[u8], track: bool, album: bool) -> Gains
+    ensures { λ r. ⌜ r ≡ judged (now (c .entry)) track album ⌝ }
+{
+    if !opus_comment::right_comment(c) {
+        return Gains::Wrong;
+    }
+    let is_track = opus_comment::is_named(b"R128_TRACK_GAIN", c);
+    let is_album = opus_comment::is_named(b"R128_ALBUM_GAIN", c);
+    if track & is_track {
+        return Gains::Wrong;
+    }
+    if album & is_album {
+        return Gains::Wrong;
+    }
+    Gains::Seen(track | is_track, album | is_album)
+}
