@@ -5,8 +5,8 @@ ghost use mathlib.Core.Path.{_≡_};
 ghost use Prim.Native.Nat.{_+_, _-_, _≤_, _<_};
 ghost use lib.Dec.{ltb};
 ghost use lib.ListN.{length};
+ghost use Rattle.putting.specs.Writing.{Laid};
 ghost use Rattle.lines.specs.Lines.{entryLine};
-ghost use Rattle.lines.specs.Writing.{Laid};
 ghost use Rattle.entry_lines.specs.Entries.{linesIn, PutLines};
 ghost use Rattle.entry_lines.specs.Code.{Sound, isAgain, Stands, Again, Lays};
 

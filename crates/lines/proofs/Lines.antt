@@ -5,11 +5,11 @@ use Prim.Native.Nat.{ℕ, _+_, _^_, _≤_, _<_}
 use native.Mathlib.Omega.{arith}
 use lib.ListN.{length, length-append}
 use Rattle.octets.specs.Octets.{Bytes}
+use Rattle.putting.specs.Writing.{Laid}
+use Rattle.putting.proofs.Laying.{laid-next}
 use Rattle.lines.specs.Decimal.{decimal}
 use Rattle.lines.specs.Lines.{space, lineFeed, entryLine, totalKept, andSkipped, andTrimmed, andHole, totalLine, refusedBy, onPage, refusedLine}
-use Rattle.lines.specs.Writing.{Laid}
 use Rattle.lines.proofs.Decimal.{length-u64}
-use Rattle.lines.proofs.Laying.{laid-next}
 
 pub length-ended : (x b : ℕ) → length (decimal x ++ (b ∷ [])) ≡ length (decimal x) + 1
 length-ended x b = length-append (decimal x) (b ∷ [])

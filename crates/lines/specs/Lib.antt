@@ -1,5 +1,4 @@
 pub mod Decimal
 pub mod Lines
 pub mod Digits
-pub mod Writing
 pub mod Statements

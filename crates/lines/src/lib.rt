@@ -7,9 +7,9 @@ ghost use lib.Dec.{ltb};
 ghost use lib.ListN.{length};
 ghost use Rattle.octets.specs.Octets.{copied};
 ghost use Rattle.octets.specs.Numbers.{octets};
+ghost use Rattle.putting.specs.Writing.{Put, Laid};
 ghost use Rattle.lines.specs.Decimal.{decimal};
 ghost use Rattle.lines.specs.Lines.{firstLine, entryLine, totalLine, refusedLine};
-ghost use Rattle.lines.specs.Writing.{Put, Laid};
 ghost use Rattle.lines.specs.Digits.{lowest};
 
 // How many digits a number has.
@@ -23,19 +23,6 @@ pub fn digits_of(x: u64) -> usize
         n += 1;
     }
     n
-}
-
-// Whether n bytes from `at` on pass the end of a buffer.
-fn is_short(len: usize, at: usize, n: usize) -> bool
-    ensures { λ r. ⌜ r ≡ ltb len (at + n) ⌝ }
-{
-    if len < at {
-        return true;
-    }
-    if len - at < n {
-        return true;
-    }
-    false
 }
 
 // The four digits of a number below 10,000, leading zeros too, as the bytes of one number. Two pairs of digits stand in 16
@@ -83,7 +70,7 @@ fn put_four(out: &mut [u8], at: usize, x: u64)
 pub fn put_last_four(out: &mut [u8], at: usize, x: u64)
     ensures { λ _. ⌜ now (out .exit) ≡ copied (now (out .entry)) at (lowest 4 x) ⌝ }
 {
-    if is_short(out.len(), at, 4) {
+    if putting::is_short(out.len(), at, 4) {
         return;
     }
     put_four(out, at, x % 10000);
@@ -200,10 +187,10 @@ fn put_pair(out: &mut [u8], at: usize, first: &[u8], x: u64, second: &[u8], y: u
 fn lacks_entry(len: usize, at: usize, end: u64, dur: u64, kept: u64) -> bool
     ensures { λ r. ⌜ r ≡ ltb len (at + length (entryLine end dur kept)) ⌝ }
 {
-    if !is_short(len, at, 63) {
+    if !putting::is_short(len, at, 63) {
         return false;
     }
-    is_short(
+    putting::is_short(
         len,
         at,
         digits_of(end) + digits_of(dur) + digits_of(kept) + 3,
@@ -213,7 +200,7 @@ fn lacks_entry(len: usize, at: usize, end: u64, dur: u64, kept: u64) -> bool
 fn lacks_total(len: usize, at: usize, kept: u64, skipped: u64, trimmed: u64, hole: u64) -> bool
     ensures { λ r. ⌜ r ≡ ltb len (at + length (totalLine kept skipped trimmed hole)) ⌝ }
 {
-    is_short(
+    putting::is_short(
         len,
         at,
         36 + digits_of(kept) + digits_of(skipped) + digits_of(trimmed) + digits_of(hole),
@@ -223,14 +210,14 @@ fn lacks_total(len: usize, at: usize, kept: u64, skipped: u64, trimmed: u64, hol
 fn lacks_refused(len: usize, at: usize, number: u64, page: u64) -> bool
     ensures { λ r. ⌜ r ≡ ltb len (at + length (refusedLine number page)) ⌝ }
 {
-    is_short(len, at, 15 + digits_of(number) + digits_of(page))
+    putting::is_short(len, at, 15 + digits_of(number) + digits_of(page))
 }
 
 // The line above all entries.
 pub fn put_first(out: &mut [u8], at: usize) -> usize
     ensures { λ r. ⌜ Put (now (out .entry)) at firstLine r (now (out .exit)) ⌝ }
 {
-    if is_short(out.len(), at, 13) {
+    if putting::is_short(out.len(), at, 13) {
         return at;
     }
     octets::copy_at(out, at, b"end dur kept\n");

@@ -9,13 +9,13 @@ use lib.Signed.{mag}
 use mir.Syntax.{w16}
 use mir.Val.{ofZ}
 use Rattle.octets.specs.Octets.{Bytes}
-use Rattle.lines.specs.Decimal.{decimal}
-use Rattle.lines.specs.Digits.{lowest}
-use Rattle.lines.specs.Writing.{Put, Laid}
-use Rattle.lines.proofs.Decimal.{decimal-one, decimal-more, length-more, length-u64, length-lowest}
-use Rattle.lines.proofs.Laying.{one-store, laid-as, laid-next}
+use Rattle.putting.specs.Writing.{Put, Laid}
+use Rattle.putting.proofs.Laying.{one-store, laid-as, laid-next}
 use Rattle.putting.proofs.Filling.{filling-first, filling-done}
 use Rattle.putting.proofs.Putting.{laid-put, length-laid}
+use Rattle.lines.specs.Decimal.{decimal}
+use Rattle.lines.specs.Digits.{lowest}
+use Rattle.lines.proofs.Decimal.{decimal-one, decimal-more, length-more, length-u64, length-lowest}
 use Rattle.number_text.specs.Numbers.{signOf, signedDecimal, unit, decibels}
 
 -- ---- digits

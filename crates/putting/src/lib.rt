@@ -1,5 +1,21 @@
 // Bytes put whole into a lent buffer. The laws of this crate make a line of parts.
-ghost use Rattle.lines.specs.Writing.{Put};
+ghost use mathlib.Core.Path.{_≡_};
+ghost use Prim.Native.Nat.{_+_};
+ghost use lib.Dec.{ltb};
+ghost use Rattle.putting.specs.Writing.{Put};
+
+// Whether n bytes from `at` on pass the end of a buffer.
+pub fn is_short(len: usize, at: usize, n: usize) -> bool
+    ensures { λ r. ⌜ r ≡ ltb len (at + n) ⌝ }
+{
+    if len < at {
+        return true;
+    }
+    if len - at < n {
+        return true;
+    }
+    false
+}
 
 // Puts all of s into a lent buffer from place `at` on, or nothing where it does not fit, and answers the place behind it.
 pub fn put_bytes(out: &mut [u8], at: usize, s: &[u8]) -> usize

@@ -11,14 +11,14 @@ use lib.Seq.{drop-cons}
 use lib.Signed.{mag}
 use Rattle.octets.specs.Octets.{Bytes, Octets}
 use Rattle.octets.proofs.Parts.{octets-tail}
+use Rattle.putting.specs.Writing.{Put, Laid}
+use Rattle.putting.proofs.Putting.{put-known, laid-put, laid-then, front}
 use Rattle.lines.specs.Decimal.{decimal}
 use Rattle.lines.specs.Lines.{space, lineFeed}
-use Rattle.lines.specs.Writing.{Put, Laid}
 use Rattle.lines.proofs.Decimal.{length-most}
-use Rattle.putting.proofs.Putting.{put-known, laid-put, laid-then, front}
+use Rattle.escapes.specs.Escape.{escaped}
 use Rattle.number_text.specs.Numbers.{decibels}
 use Rattle.number_text.proofs.Texts.{length-decibels}
-use Rattle.escapes.specs.Escape.{escaped}
 use Rattle.opus_comment.specs.Gain.{commentGain}
 use Rattle.tag_lines.specs.Lines.{tab, decibelsEnd, spaced, isGain, textLine, gainEnd, commentEnd}
 

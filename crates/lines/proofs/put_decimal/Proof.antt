@@ -3,8 +3,8 @@ use native.Mathlib.Omega.{arith}
 use borrow.Author.Needs.{needs}
 use mathlib.Core.Path.{refl}
 use Prim.Native.Nat.{_%_}
+use Rattle.putting.proofs.Laying.{laid-next, laid-as}
 use Rattle.lines.proofs.Decimal.{decimal-eights, length-eights, length-eight}
-use Rattle.lines.proofs.Laying.{laid-next, laid-as}
 use Rattle.lines.proofs.put_decimal.Statement.{statement}
 use Rattle.lines.proofs.put_decimal.Tie as tie
 

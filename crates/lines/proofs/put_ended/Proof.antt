@@ -5,8 +5,8 @@ use native.Mathlib.Omega.{arith}
 use borrow.Author.Needs.{needs}
 use lib.ListN.{length}
 use Rattle.octets.proofs.Numbers.{length-octets}
+use Rattle.putting.proofs.Laying.{one-store, laid-as, laid-next}
 use Rattle.lines.proofs.Decimal.{decimal-three}
-use Rattle.lines.proofs.Laying.{one-store, laid-as, laid-next}
 use Rattle.lines.proofs.put_ended.Statement.{statement}
 use Rattle.lines.proofs.put_ended.Tie as tie
 

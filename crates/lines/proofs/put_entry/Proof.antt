@@ -7,9 +7,9 @@ use borrow.Author.Tests.{ltb-false}
 use denote.Ref.{now}
 use lib.Dec.{ltb}
 use lib.ListN.{length}
+use Rattle.putting.proofs.Laying.{put-all, put-none}
 use Rattle.lines.specs.Lines.{entryLine}
 use Rattle.lines.proofs.Lines.{length-ended, length-entry, laid-entry}
-use Rattle.lines.proofs.Laying.{put-all, put-none}
 use Rattle.lines.proofs.put_entry.Statement.{statement}
 use Rattle.lines.proofs.put_entry.Tie as tie
 

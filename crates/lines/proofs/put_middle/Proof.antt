@@ -3,8 +3,8 @@ use native.Mathlib.Omega.{arith}
 use borrow.Author.Needs.{needs}
 use mathlib.Core.Path.{refl}
 use Prim.Native.Nat.{_%_}
+use Rattle.putting.proofs.Laying.{laid-next, laid-as}
 use Rattle.lines.proofs.Decimal.{decimal-fours, length-fours, length-lowest}
-use Rattle.lines.proofs.Laying.{laid-next, laid-as}
 use Rattle.lines.proofs.put_middle.Statement.{statement}
 use Rattle.lines.proofs.put_middle.Tie as tie
 

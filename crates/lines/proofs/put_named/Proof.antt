@@ -1,7 +1,7 @@
 -- `lines::put_named` meets its contract: the digits right behind the name. Assumes nothing.
 use mathlib.Core.Path.{refl}
 use native.Mathlib.Omega.{arith}
-use Rattle.lines.proofs.Laying.{laid-as, laid-next}
+use Rattle.putting.proofs.Laying.{laid-as, laid-next}
 use Rattle.lines.proofs.put_named.Statement.{statement}
 use Rattle.lines.proofs.put_named.Tie as tie
 

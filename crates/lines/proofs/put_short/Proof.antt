@@ -5,9 +5,9 @@ use Prim.Native.Nat.{_/_, _%_}
 use native.Mathlib.Omega.{arith}
 use borrow.Author.Needs.{needs}
 use lib.ListN.{length, length-set}
+use Rattle.putting.proofs.Laying.{one-store, two-stores, three-stores, laid-as}
 use Rattle.lines.specs.Decimal.{digit, decimal}
 use Rattle.lines.proofs.Decimal.{decimal-one, decimal-two, decimal-three, decimal-four, length-lowest}
-use Rattle.lines.proofs.Laying.{one-store, two-stores, three-stores, laid-as}
 use Rattle.lines.proofs.put_short.Statement.{statement}
 use Rattle.lines.proofs.put_short.Tie as tie
 

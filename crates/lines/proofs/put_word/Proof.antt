@@ -5,7 +5,7 @@ use borrow.Author.Needs.{needs}
 use denote.Ref.{now}
 use lib.ListN.{length-set}
 use Rattle.octets.specs.Octets.{copied}
-use Rattle.lines.proofs.Laying.{four-stores}
+use Rattle.putting.proofs.Laying.{four-stores}
 use Rattle.lines.proofs.Words.{word-places}
 use Rattle.lines.proofs.put_word.Statement.{statement}
 use Rattle.lines.proofs.put_word.Tie as tie

@@ -4,8 +4,8 @@ use native.Mathlib.Omega.{arith}
 use borrow.Author.Needs.{needs}
 use denote.Ref.{now}
 use mir.Facts.{toZ-ofZ}
-use Rattle.lines.specs.Writing.{Laid}
-use Rattle.lines.proofs.Laying.{laid-next}
+use Rattle.putting.specs.Writing.{Laid}
+use Rattle.putting.proofs.Laying.{laid-next}
 use Rattle.putting.proofs.Putting.{put-known, laid-put, laid-known, length-laid}
 use Rattle.number_text.specs.Numbers.{signedDecimal}
 use Rattle.number_text.proofs.Texts.{length-signed}

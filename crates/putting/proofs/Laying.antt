@@ -11,7 +11,7 @@ use lib.ListN.{length, set, length-append}
 use lib.Seq.{sets, sets-eq, take-length}
 use Rattle.octets.specs.Octets.{Bytes, copied}
 use Rattle.octets.proofs.Copying.{copied-fits, copied-short, copied-append}
-use Rattle.lines.specs.Writing.{placeBehind, Put, Laid}
+use Rattle.putting.specs.Writing.{placeBehind, Put, Laid}
 
 -- a run of stores is a copy
 pub stores : (s d : Bytes) (at : ℕ) → at + length s ≤ length d → sets d at s ≡ copied d at s

@@ -1,12 +1,12 @@
--- `lines::is_short` meets its contract. Assumes nothing.
+-- `putting::is_short` meets its contract. Assumes nothing.
 use mathlib.Core.Path.{_≡_, sym}
 use mathlib.Core.Bool.{true, false}
 use Prim.Native.Nat.{ℕ, _+_, _-_, _≤_, _<_}
 use native.Mathlib.Omega.{arith}
 use borrow.Author.Tests.{lt-ltb, le-ltb}
 use lib.Dec.{ltb}
-use Rattle.lines.proofs.is_short.Statement.{statement}
-use Rattle.lines.proofs.is_short.Tie as tie
+use Rattle.putting.proofs.is_short.Statement.{statement}
+use Rattle.putting.proofs.is_short.Tie as tie
 
 past : (len at n : ℕ) → len < at → true ≡ ltb len (at + n)
 past len at n h = sym (lt-ltb len (at + n) (omega arith))
