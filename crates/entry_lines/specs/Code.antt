@@ -8,8 +8,9 @@ use lib.ListN.{length, take, drop}
 use Rattle.octets.specs.Octets.{Bytes}
 use Rattle.octets.specs.Numbers.{octets}
 use Rattle.putting.specs.Writing.{Laid}
-use Rattle.lines.specs.Decimal.{decimal}
-use Rattle.lines.specs.Lines.{space, lineFeed, entryLine}
+use Rattle.putting.specs.Marks.{space, lineFeed}
+use Rattle.decimal.specs.Decimal.{decimal}
+use Rattle.lines.specs.Lines.{entryLine}
 use Rattle.entry_lines.specs.declared.Repeat.{Repeat}
 use Rattle.entry_lines.specs.declared.Next.{Next}
 

@@ -6,9 +6,9 @@ use native.Mathlib.Nat.{pow-suc, mul-assoc}
 use native.Mathlib.Omega.{arith}
 use lib.IntN.{natAbs}
 use Rattle.octets.specs.Octets.{Bytes}
-use Rattle.lines.specs.Decimal.{digit, decimal, numberAfter, numberRead}
-use Rattle.lines.specs.Digits.{lowest}
-use Rattle.lines.proofs.Reading.{decimal-right}
+use Rattle.decimal.specs.Decimal.{digit, decimal, numberAfter, numberRead}
+use Rattle.decimal.specs.Digits.{lowest}
+use Rattle.decimal.proofs.Reading.{decimal-right}
 use Rattle.number_text.specs.Statements.{DecibelsExact}
 
 number-behind : (v : ℕ) (s t : Bytes) → numberAfter v (s ++ t) ≡ numberAfter (numberAfter v s) t

@@ -13,9 +13,9 @@ use Rattle.putting.specs.Writing.{Put, Laid}
 use Rattle.putting.proofs.Laying.{one-store, laid-as, laid-next}
 use Rattle.putting.proofs.Filling.{filling-first, filling-done}
 use Rattle.putting.proofs.Putting.{laid-put, length-laid}
-use Rattle.lines.specs.Decimal.{decimal}
-use Rattle.lines.specs.Digits.{lowest}
-use Rattle.lines.proofs.Decimal.{decimal-one, decimal-more, length-more, length-u64, length-lowest}
+use Rattle.decimal.specs.Decimal.{decimal}
+use Rattle.decimal.specs.Digits.{lowest}
+use Rattle.decimal.proofs.Decimal.{decimal-one, decimal-more, length-more, length-u64, length-lowest}
 use Rattle.number_text.specs.Numbers.{signOf, signedDecimal, unit, decibels}
 
 -- ---- digits

@@ -3,8 +3,8 @@ use Prim.Native.Nat.{_*_, _/_, _%_}
 use mathlib.Core.List.{[], _∷_, _++_}
 use lib.IntN.{ℤ, pos, negsuc, natAbs}
 use Rattle.octets.specs.Octets.{Bytes}
-use Rattle.lines.specs.Decimal.{decimal}
-use Rattle.lines.specs.Digits.{lowest}
+use Rattle.decimal.specs.Decimal.{decimal}
+use Rattle.decimal.specs.Digits.{lowest}
 
 -- "-" where the number is below zero
 abbrev pub signOf : ℤ → Bytes

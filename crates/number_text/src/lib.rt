@@ -5,8 +5,8 @@ ghost use Prim.Native.Nat.{_+_, _≤_, _<_};
 ghost use lib.IntN.{natAbs};
 ghost use lib.ListN.{length};
 ghost use Rattle.putting.specs.Writing.{Put, Laid};
-ghost use Rattle.lines.specs.Decimal.{decimal};
-ghost use Rattle.lines.specs.Digits.{lowest};
+ghost use Rattle.decimal.specs.Decimal.{decimal};
+ghost use Rattle.decimal.specs.Digits.{lowest};
 ghost use Rattle.number_text.specs.Numbers.{signOf, signedDecimal, decibels};
 
 // The digits of a number, the last one last.

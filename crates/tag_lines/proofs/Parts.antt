@@ -12,10 +12,10 @@ use lib.Signed.{mag}
 use Rattle.octets.specs.Octets.{Bytes, Octets}
 use Rattle.octets.proofs.Parts.{octets-tail}
 use Rattle.putting.specs.Writing.{Put, Laid}
+use Rattle.putting.specs.Marks.{space, lineFeed}
 use Rattle.putting.proofs.Putting.{put-known, laid-put, laid-then, front}
-use Rattle.lines.specs.Decimal.{decimal}
-use Rattle.lines.specs.Lines.{space, lineFeed}
-use Rattle.lines.proofs.Decimal.{length-most}
+use Rattle.decimal.specs.Decimal.{decimal}
+use Rattle.decimal.proofs.Decimal.{length-most}
 use Rattle.escapes.specs.Escape.{escaped}
 use Rattle.number_text.specs.Numbers.{decibels}
 use Rattle.number_text.proofs.Texts.{length-decibels}

@@ -6,13 +6,13 @@ use lib.IntN.{ℤ}
 use Rattle.octets.specs.Pick.{pick}
 use Rattle.octets.specs.Octets.{Bytes}
 use Rattle.refusal.specs.Told.{Told, gives, refuses}
-use Rattle.lines.specs.Decimal.{decimal}
-use Rattle.lines.specs.Lines.{space, lineFeed}
+use Rattle.putting.specs.Marks.{space, lineFeed}
+use Rattle.decimal.specs.Decimal.{decimal}
+use Rattle.escapes.specs.Escape.{escaped}
+use Rattle.number_text.specs.Numbers.{signedDecimal, decibels}
 use Rattle.opus_comment.specs.Names.{isNamed}
 use Rattle.opus_comment.specs.Gain.{commentGain}
 use Rattle.opus_tags.specs.Right.{trackGain, albumGain}
-use Rattle.number_text.specs.Numbers.{signedDecimal, decibels}
-use Rattle.escapes.specs.Escape.{escaped}
 
 abbrev pub tab : Bytes
 tab = 9 ∷ []

@@ -7,7 +7,7 @@ use borrow.Fn.Kinds.{In}
 use borrow.Fn.PlainCycle.{Measures, is, falls, and}
 use denote.Ref.{now}
 use lib.ListN.{length}
-use Rattle.lines.proofs.Decimal.{length-more, decimal-one}
+use Rattle.decimal.proofs.Decimal.{length-more, decimal-one}
 use Rattle.number_text.proofs.Texts.{one-digit, more-digits}
 use Rattle.number_text.proofs.lay_decimal.Reads as reads
 use Rattle.number_text.proofs.lay_decimal.Kinds as kinds

@@ -5,7 +5,7 @@ use borrow.Author.Needs.{needs}
 use borrow.Fn.Kinds.{In}
 use borrow.Fn.PlainCycle.{Measures, is, falls, and}
 use denote.Ref.{now}
-use Rattle.lines.proofs.Decimal.{length-lowest}
+use Rattle.decimal.proofs.Decimal.{length-lowest}
 use Rattle.number_text.proofs.Texts.{no-digits, next-digit}
 use Rattle.number_text.proofs.lay_lowest.Reads as reads
 use Rattle.number_text.proofs.lay_lowest.Kinds as kinds

@@ -1,8 +1,8 @@
 -- `number_text::put_decimal` meets its contract: made in a buffer of its own, and put whole. Assumes nothing.
 use native.Mathlib.Omega.{arith}
 use borrow.Author.Needs.{needs}
-use Rattle.lines.proofs.Decimal.{length-u64}
 use Rattle.putting.proofs.Putting.{put-made}
+use Rattle.decimal.proofs.Decimal.{length-u64}
 use Rattle.number_text.proofs.put_decimal.Statement.{statement}
 use Rattle.number_text.proofs.put_decimal.Tie as tie
 

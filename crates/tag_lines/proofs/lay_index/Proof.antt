@@ -2,9 +2,9 @@
 use native.Mathlib.Omega.{arith}
 use borrow.Author.Needs.{needs}
 use lib.ListN.{length-append}
-use Rattle.lines.specs.Decimal.{decimal}
-use Rattle.lines.specs.Lines.{space}
+use Rattle.putting.specs.Marks.{space}
 use Rattle.putting.proofs.Putting.{laid-put, laid-then}
+use Rattle.decimal.specs.Decimal.{decimal}
 use Rattle.tag_lines.proofs.lay_index.Statement.{statement}
 use Rattle.tag_lines.proofs.lay_index.Tie as tie
 

@@ -1,8 +1,8 @@
 -- `tag_lines::lay_number` meets its contract. Assumes nothing.
 use native.Mathlib.Omega.{arith}
 use borrow.Author.Needs.{needs}
-use Rattle.lines.proofs.Decimal.{length-u64}
 use Rattle.putting.proofs.Putting.{laid-put, laid-then}
+use Rattle.decimal.proofs.Decimal.{length-u64}
 use Rattle.tag_lines.proofs.lay_number.Statement.{statement}
 use Rattle.tag_lines.proofs.lay_number.Tie as tie
 

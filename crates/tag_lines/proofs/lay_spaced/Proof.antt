@@ -4,9 +4,9 @@ use Prim.Native.Nat.{_+_, _-_}
 use native.Mathlib.Omega.{arith}
 use denote.Ref.{now}
 use lib.ListN.{length, getD, drop, length-append}
-use Rattle.lines.specs.Decimal.{decimal}
-use Rattle.lines.specs.Lines.{space}
+use Rattle.putting.specs.Marks.{space}
 use Rattle.putting.proofs.Filling.{Filling, filling-first, filling-next, filling-done}
+use Rattle.decimal.specs.Decimal.{decimal}
 use Rattle.tag_lines.specs.Lines.{spaced}
 use Rattle.tag_lines.proofs.Parts.{next-index, no-index}
 use Rattle.tag_lines.proofs.lay_spaced.Statement.{statement}

@@ -7,7 +7,7 @@ use borrow.Author.Needs.{needs}
 use denote.Ref.{now}
 use lib.ListN.{length, take, length-append, length-take}
 use Rattle.octets.specs.Octets.{Bytes}
-use Rattle.lines.specs.Lines.{lineFeed}
+use Rattle.putting.specs.Marks.{lineFeed}
 use Rattle.putting.proofs.Putting.{put-known}
 use Rattle.head_fields.specs.Right.{usedPlaces}
 use Rattle.tag_lines.specs.Lines.{mappingIs, spaced, mappingLine}

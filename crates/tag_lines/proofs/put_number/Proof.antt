@@ -3,9 +3,9 @@ use native.Mathlib.Omega.{arith}
 use borrow.Author.Needs.{needs}
 use denote.Ref.{now}
 use lib.ListN.{length-append}
-use Rattle.lines.specs.Decimal.{decimal}
-use Rattle.lines.specs.Lines.{lineFeed}
-use Rattle.lines.proofs.Decimal.{length-u64}
+use Rattle.putting.specs.Marks.{lineFeed}
+use Rattle.decimal.specs.Decimal.{decimal}
+use Rattle.decimal.proofs.Decimal.{length-u64}
 use Rattle.tag_lines.specs.Lines.{numberLine}
 use Rattle.tag_lines.proofs.Parts.{put-ended}
 use Rattle.tag_lines.proofs.put_number.Statement.{statement}

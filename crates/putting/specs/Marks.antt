@@ -1,0 +1,9 @@
+-- The bytes that part a line's parts, and end it. Assumes nothing.
+use mathlib.Core.List.{[], _∷_}
+use Rattle.octets.specs.Octets.{Bytes}
+
+abbrev pub space : Bytes
+space = 32 ∷ []
+
+abbrev pub lineFeed : Bytes
+lineFeed = 10 ∷ []
