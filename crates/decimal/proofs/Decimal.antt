@@ -114,6 +114,13 @@ lowest-same x =
     let d : x % 10000 % 10 ≡ x % 10 = omega arith in
     rw (a, b, c, d)
 
+-- eight digits, four at a time
+pub lowest-eight : (x : ℕ) → lowest 8 x ≡ lowest 4 (x / 10000) ++ lowest 4 x
+unfolding lowest
+lowest-eight x =
+    let q : x / 10 / 10 / 10 / 10 ≡ x / 10000 = omega arith in
+    rw q
+
 pub decimal-four : (x : ℕ) → 1000 ≤ x → x < 10000 → decimal x ≡ lowest 4 x
 unfolding lowest
 decimal-four x h k =

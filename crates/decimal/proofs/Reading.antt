@@ -37,7 +37,7 @@ own-digits =
     by-tens (λ (x : ℕ). Digits (decimal x)) (λ x h. rw (decimal-one x h) (digits-one x h))
     (λ x h o. rw (decimal-more x h) (digits-append (decimal (x / 10)) (digit (x % 10) ∷ []) o (digits-one (x % 10) (omega arith))))
 
-number-append : (v : ℕ) (s t : Bytes) → numberAfter v (s ++ t) ≡ numberAfter (numberAfter v s) t
+pub number-append : (v : ℕ) (s t : Bytes) → numberAfter v (s ++ t) ≡ numberAfter (numberAfter v s) t
 unfolding numberAfter
 number-append v [] t = refl
 number-append v (b ∷ s) t = number-append (v * 10 + (b - 48)) s t

@@ -32,7 +32,7 @@ fn lay_number(out: &mut [u8], x: u64) -> usize
     requires { ⌜ 21 ≤ length (now out) ⌝ }
     ensures { λ r. ⌜ Laid (now (out .entry)) 0 (decimal x ++ lineFeed) r (now (out .exit)) ⌝ }
 {
-    let last = number_text::put_decimal(out, 0, x);
+    let last = decimal::put_decimal(out, 0, x);
     putting::put_bytes(out, last, b"\n")
 }
 
@@ -78,7 +78,7 @@ fn lay_index(out: &mut [u8], at: usize, i: u8) -> usize
     ensures { λ r. ⌜ Laid (now (out .entry)) at (space ++ decimal i) r (now (out .exit)) ⌝ }
 {
     let next = putting::put_bytes(out, at, b" ");
-    number_text::put_decimal(out, next, i as u64)
+    decimal::put_decimal(out, next, i as u64)
 }
 
 // Numbers, each behind a space.
