@@ -9,14 +9,15 @@ use lib.Signed.{mag}
 use mir.Syntax.{w16}
 use mir.Val.{ofZ}
 use Rattle.octets.specs.Octets.{Bytes}
+use Rattle.putting.specs.Marks.{tab, lineFeed}
 use Rattle.putting.specs.Writing.{Put, Laid}
 use Rattle.putting.proofs.Laying.{one-store, laid-as, laid-next}
 use Rattle.putting.proofs.Filling.{filling-first, filling-done}
-use Rattle.putting.proofs.Putting.{laid-then, length-laid}
+use Rattle.putting.proofs.Putting.{laid-put, laid-then, length-laid}
 use Rattle.decimal.specs.Decimal.{decimal}
 use Rattle.decimal.specs.Digits.{lowest}
 use Rattle.decimal.proofs.Decimal.{length-u64, length-lowest}
-use Rattle.number_text.specs.Numbers.{signOf, signedDecimal, unit, decibels}
+use Rattle.number_text.specs.Numbers.{signOf, signedDecimal, unit, decibels, decibelsEnd}
 
 -- ---- signs: b is the bits of g
 
@@ -81,7 +82,7 @@ module _ (d : Bytes) (at : ℕ) (g : ℤ) (n : ℕ) (e : n ≡ natAbs g) (small 
         rw (← e, grouped (signOf g) (decimal (n / 256)) (46 ∷ []) (lowest 8 (n % 256 * 390625)) unit)
         (laid-then third (omega (arith, begun-most, rest .place)) end)
 
--- ---- their lengths
+-- ---- their lengths, and the end of a gain's line
 
 size-most : (g : ℤ) → mag g < 2 ^ 15 → natAbs g ≤ 32768
 size-most (pos n) h = omega arith
@@ -94,7 +95,7 @@ module _ (g : ℤ) (small : mag g < 2 ^ 15) where
       let size = size-most g small in
       omega (arith, length-append (signOf g) (decimal (natAbs g)), sign-most g, length-u64 (natAbs g) (omega arith))
 
-  pub length-decibels : length (decibels g) ≤ 33
+  length-decibels : length (decibels g) ≤ 33
   unfolding decibels
   length-decibels =
       let size = size-most g small in
@@ -102,3 +103,18 @@ module _ (g : ℤ) (small : mag g < 2 ^ 15) where
       let rest = length-lowest 8 (natAbs g % 256 * 390625) in
       let sign = sign-most g in
       simp length-append (omega arith)
+
+  pub length-end : length (decibelsEnd g) ≤ 35
+  unfolding decibelsEnd
+  length-end = let most = length-decibels in simp length-append (omega arith)
+
+  -- a gain's decibels behind a tab, and a line feed behind them
+  pub laid-end : {d v w x : Bytes} {a b r : ℕ} → 35 ≤ length d → Put d 0 tab a v → Laid v a (decibels g) b w → Put w b lineFeed r x
+      → Laid d 0 (decibelsEnd g) r x
+  unfolding decibelsEnd
+  laid-end room e f h =
+      let most = length-decibels in
+      let first = laid-put (omega arith) e in
+      let second = laid-next first f (omega (arith, first .place)) in
+      let both = length-append tab (decibels g) in
+      laid-then second (omega (arith, second .place)) h

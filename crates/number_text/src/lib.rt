@@ -6,7 +6,7 @@ ghost use lib.IntN.{natAbs};
 ghost use lib.ListN.{length};
 ghost use Rattle.putting.specs.Writing.{Put, Laid};
 ghost use Rattle.decimal.specs.Digits.{lowest};
-ghost use Rattle.number_text.specs.Numbers.{signOf, signedDecimal, decibels};
+ghost use Rattle.number_text.specs.Numbers.{signOf, signedDecimal, decibels, decibelsEnd};
 
 fn size_of(g: i16) -> u64
     ensures { λ r. ⌜ (r ≡ natAbs g) × (r ≤ 32768) ⌝ }
@@ -56,6 +56,16 @@ fn lay_decibels(out: &mut [u8], at: usize, g: i16) -> usize
     putting::put_bytes(out, unit, b" dB")
 }
 
+// A gain in decibels between a tab and a line feed.
+fn lay_end(out: &mut [u8], g: i16) -> usize
+    requires { ⌜ 35 ≤ length (now out) ⌝ }
+    ensures { λ r. ⌜ Laid (now (out .entry)) 0 (decibelsEnd g) r (now (out .exit)) ⌝ }
+{
+    let second = putting::put_bytes(out, 0, b"\t");
+    let last = lay_decibels(out, second, g);
+    putting::put_bytes(out, last, b"\n")
+}
+
 // A signed number: "-" where it is below zero, and its digits.
 pub fn put_signed(out: &mut [u8], at: usize, g: i16) -> usize
     ensures { λ r. ⌜ Put (now (out .entry)) at (signedDecimal g) r (now (out .exit)) ⌝ }
@@ -65,11 +75,11 @@ pub fn put_signed(out: &mut [u8], at: usize, g: i16) -> usize
     putting::put_bytes(out, at, octets::part_of(&text, 0, n))
 }
 
-// A gain in decibels, exact to the last of eight decimals.
+// What ends the line of a gain: a tab, the gain in decibels, exact to the last of eight decimals, and a line feed.
 pub fn put_decibels(out: &mut [u8], at: usize, g: i16) -> usize
-    ensures { λ r. ⌜ Put (now (out .entry)) at (decibels g) r (now (out .exit)) ⌝ }
+    ensures { λ r. ⌜ Put (now (out .entry)) at (decibelsEnd g) r (now (out .exit)) ⌝ }
 {
-    let mut text = [0u8; 33];
-    let n = lay_decibels(&mut text, 0, g);
+    let mut text = [0u8; 35];
+    let n = lay_end(&mut text, g);
     putting::put_bytes(out, at, octets::part_of(&text, 0, n))
 }

@@ -7,3 +7,6 @@ space = 32 ∷ []
 
 abbrev pub lineFeed : Bytes
 lineFeed = 10 ∷ []
+
+abbrev pub tab : Bytes
+tab = 9 ∷ []

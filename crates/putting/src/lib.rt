@@ -1,5 +1,6 @@
 // Bytes put whole into a lent buffer. The laws of this crate make a line of parts.
 ghost use mathlib.Core.Path.{_≡_};
+ghost use mathlib.Core.List.{_++_};
 ghost use Prim.Native.Nat.{_+_};
 ghost use lib.Dec.{ltb};
 ghost use Rattle.putting.specs.Writing.{Put};
@@ -29,4 +30,18 @@ pub fn put_bytes(out: &mut [u8], at: usize, s: &[u8]) -> usize
     }
     octets::copy_at(out, at, s);
     at + s.len()
+}
+
+// Puts two parts, one behind the other, or nothing where they do not both fit.
+pub fn put_both(out: &mut [u8], at: usize, a: &[u8], b: &[u8]) -> usize
+    ensures { λ r. ⌜ Put (now (out .entry)) at (now (a .entry) ++ now (b .entry)) r (now (out .exit)) ⌝ }
+{
+    if out.len() < at {
+        return at;
+    }
+    if out.len() - at < a.len() + b.len() {
+        return at;
+    }
+    let next = put_bytes(out, at, a);
+    put_bytes(out, next, b)
 }
