@@ -1,4 +1,4 @@
--- The bytes that part a line's parts, and end it. Assumes nothing.
+-- The bytes between the parts of a line, and at its end. Assumes nothing.
 use mathlib.Core.List.{[], _∷_}
 use Rattle.octets.specs.Octets.{Bytes}
 
