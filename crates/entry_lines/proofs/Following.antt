@@ -11,8 +11,8 @@ use lib.Seq.{take-length, take-at, drop-at, length-take-le}
 use Rattle.octets.specs.Octets.{Bytes, copied}
 use Rattle.octets.proofs.Copying.{copied-fits, length-copied}
 use Rattle.octets.proofs.Tests.{both}
+use Rattle.putting.specs.Writing.{placeBehind, Put, Laid}
 use Rattle.lines.specs.Lines.{entryLine}
-use Rattle.lines.specs.Writing.{placeBehind, Put, Laid}
 use Rattle.lines.proofs.Lines.{entry-most}
 use Rattle.entry_lines.specs.declared.Repeat.{Repeat}
 use Rattle.entry_lines.specs.Code.{Sound, isAgain, Again, Stands}

@@ -10,11 +10,11 @@ use Rattle.octets.specs.Octets.{Bytes, copied}
 use Rattle.octets.specs.Numbers.{octets}
 use Rattle.octets.proofs.Copying.{copied-fits, length-copied, copied-append}
 use Rattle.octets.proofs.Numbers.{length-octets}
-use Rattle.lines.specs.Decimal.{decimal}
-use Rattle.lines.specs.Digits.{lowest}
+use Rattle.putting.specs.Writing.{Laid}
+use Rattle.decimal.specs.Decimal.{decimal}
+use Rattle.decimal.specs.Digits.{lowest}
+use Rattle.decimal.proofs.Decimal.{decimal-fours, length-lowest}
 use Rattle.lines.specs.Lines.{entryLine}
-use Rattle.lines.specs.Writing.{Laid}
-use Rattle.lines.proofs.Decimal.{decimal-fours, length-lowest}
 use Rattle.entry_lines.specs.declared.Repeat.{Repeat}
 use Rattle.entry_lines.specs.Code.{tailLine, Again}
 

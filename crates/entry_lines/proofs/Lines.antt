@@ -11,8 +11,8 @@ use lib.Seq.{paste, paste-zero, drop-cons}
 use Rattle.octets.specs.Pick.{pick}
 use Rattle.octets.specs.Octets.{Bytes, copied}
 use Rattle.octets.proofs.Copying.{length-copied, copied-append}
+use Rattle.putting.specs.Writing.{Laid}
 use Rattle.lines.specs.Lines.{entryLine}
-use Rattle.lines.specs.Writing.{Laid}
 use Rattle.entry_lines.specs.Entries.{Lined, noLines, before, linesIn, PutLines}
 
 -- lines in front of others

@@ -10,11 +10,11 @@ use Rattle.octets.specs.Numbers.{octets, number}
 use Rattle.octets.proofs.Fields.{field}
 use Rattle.octets.proofs.Numbers.{length-octets}
 use Rattle.octets.proofs.Parts.{take-within}
-use Rattle.lines.specs.Decimal.{decimal}
-use Rattle.lines.specs.Digits.{lowest}
+use Rattle.decimal.specs.Decimal.{decimal}
+use Rattle.decimal.specs.Digits.{lowest}
+use Rattle.decimal.proofs.Decimal.{decimal-fours, length-more, length-most, length-lowest}
+use Rattle.decimal.proofs.Reading.{decimal-right}
 use Rattle.lines.specs.Lines.{entryLine}
-use Rattle.lines.proofs.Decimal.{decimal-fours, length-more, length-most, length-lowest}
-use Rattle.lines.proofs.Reading.{decimal-right}
 use Rattle.entry_lines.specs.declared.Repeat.{Repeat}
 use Rattle.entry_lines.specs.Code.{tailLine, Has, Stands}
 use Rattle.entry_lines.proofs.Laying.{line-parts}

@@ -7,9 +7,10 @@ use lib.Dec.{ltb, leb, eqb}
 use lib.ListN.{length, take, drop}
 use Rattle.octets.specs.Octets.{Bytes}
 use Rattle.octets.specs.Numbers.{octets}
-use Rattle.lines.specs.Decimal.{decimal}
-use Rattle.lines.specs.Lines.{space, lineFeed, entryLine}
-use Rattle.lines.specs.Writing.{Laid}
+use Rattle.putting.specs.Writing.{Laid}
+use Rattle.putting.specs.Marks.{space, lineFeed}
+use Rattle.decimal.specs.Decimal.{decimal}
+use Rattle.lines.specs.Lines.{entryLine}
 use Rattle.entry_lines.specs.declared.Repeat.{Repeat}
 use Rattle.entry_lines.specs.declared.Next.{Next}
 

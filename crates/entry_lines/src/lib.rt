@@ -5,8 +5,8 @@ ghost use mathlib.Core.Path.{_≡_};
 ghost use Prim.Native.Nat.{_+_, _-_, _≤_, _<_};
 ghost use lib.Dec.{ltb};
 ghost use lib.ListN.{length};
+ghost use Rattle.putting.specs.Writing.{Laid};
 ghost use Rattle.lines.specs.Lines.{entryLine};
-ghost use Rattle.lines.specs.Writing.{Laid};
 ghost use Rattle.entry_lines.specs.Entries.{linesIn, PutLines};
 ghost use Rattle.entry_lines.specs.Code.{Sound, isAgain, Stands, Again, Lays};
 
@@ -72,7 +72,7 @@ fn put_again(out: &mut [u8], at: usize, c: Repeat, end: u64) -> usize
     let tail = low + 4;
     let next = tail + c.length;
     number_writer::put64(out, at, c.upper);
-    lines::put_last_four(out, low, end - c.base);
+    decimal::put_last_four(out, low, end - c.base);
     number_writer::put64(out, tail, c.first);
     number_writer::put64(out, next - 8, c.last);
     next
@@ -89,7 +89,7 @@ fn bytes_of(out: &[u8], at: usize, next: usize, end: u64, size: u64, kept: u64) 
     if end >= 1000000000000 {
         return nothing();
     }
-    let length = lines::digits_of(size) + lines::digits_of(kept) + 3;
+    let length = decimal::digits_of(size) + decimal::digits_of(kept) + 3;
     if length < 8 {
         return nothing();
     }

@@ -4,7 +4,7 @@ ghost use mathlib.Core.Bool.{_&&_};
 ghost use Prim.Native.Nat.{_+_, _-_, _≤_, _<_};
 ghost use lib.Dec.{leb};
 ghost use lib.ListN.{length, getD, drop};
-ghost use Rattle.lines.specs.Writing.{Put, Laid};
+ghost use Rattle.putting.specs.Writing.{Put, Laid};
 ghost use Rattle.escapes.specs.Hidden.{isHidden};
 ghost use Rattle.escapes.specs.Escape.{hexDigit, escapeOf, imageOf, isShown, bytesShown, escaped};
 

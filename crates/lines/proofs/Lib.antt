@@ -1,5 +1,1 @@
-pub mod Decimal
-pub mod Laying
 pub mod Lines
-pub mod Reading
-pub mod Words

@@ -1,18 +1,17 @@
 -- The lines of a listing by their parts, and their lengths. Assumes nothing.
 use mathlib.Core.Path.{_≡_}
-use mathlib.Core.List.{[], _∷_, _++_, append-assoc}
+use mathlib.Core.List.{_++_, append-assoc}
 use Prim.Native.Nat.{ℕ, _+_, _^_, _≤_, _<_}
 use native.Mathlib.Omega.{arith}
 use lib.ListN.{length, length-append}
 use Rattle.octets.specs.Octets.{Bytes}
-use Rattle.lines.specs.Decimal.{decimal}
-use Rattle.lines.specs.Lines.{space, lineFeed, entryLine, totalKept, andSkipped, andTrimmed, andHole, totalLine, refusedBy, onPage, refusedLine}
-use Rattle.lines.specs.Writing.{Laid}
-use Rattle.lines.proofs.Decimal.{length-u64}
-use Rattle.lines.proofs.Laying.{laid-next}
-
-pub length-ended : (x b : ℕ) → length (decimal x ++ (b ∷ [])) ≡ length (decimal x) + 1
-length-ended x b = length-append (decimal x) (b ∷ [])
+use Rattle.putting.specs.Writing.{Put, Laid}
+use Rattle.putting.specs.Marks.{space, lineFeed}
+use Rattle.putting.proofs.Laying.{laid-next}
+use Rattle.putting.proofs.Putting.{laid-put, laid-then}
+use Rattle.decimal.specs.Decimal.{decimal}
+use Rattle.decimal.proofs.Decimal.{length-ended, length-u64}
+use Rattle.lines.specs.Lines.{entryLine, totalKept, andSkipped, andTrimmed, andHole, totalLine, refusedBy, onPage, refusedLine}
 
 pub length-pair : (s t : Bytes) (x y : ℕ)
     → length ((s ++ decimal x) ++ (t ++ decimal y)) ≡ length s + length (decimal x) + length t + length (decimal y)
@@ -30,15 +29,17 @@ module _ (end dur kept : ℕ) where
   unfolding entryLine
   entry-parts = simp append-assoc
 
-  pub laid-entry : {d x y z : Bytes} {at a b r : ℕ} → Laid d at (decimal end ++ space) a x → Laid x a (decimal dur ++ space) b y
-      → Laid y b (decimal kept ++ lineFeed) r z → at + length (entryLine end dur kept) ≤ length d → Laid d at (entryLine end dur kept) r z
-  laid-entry {d} {x} {y} {z} {at} {a} {b} {r} e f g room =
+  pub laid-entry : {d x y z : Bytes} {at a b r : ℕ} → Put d at (decimal end ++ space) a x → Put x a (decimal dur ++ space) b y
+      → Put y b (decimal kept ++ lineFeed) r z → at + length (entryLine end dur kept) ≤ length d → Laid d at (entryLine end dur kept) r z
+  laid-entry e f g room =
       let he = length-ended end 32 in
       let hf = length-ended dur 32 in
       let hg = length-ended kept 10 in
+      let both = length-append (decimal end ++ space) (decimal dur ++ space) in
       let size = length-entry in
-      let two = laid-next e f (omega (arith, e .place)) in
-      rw entry-parts (laid-next two g (omega (arith, e .place, f .place)))
+      let one = laid-put (omega arith) e in
+      let two = laid-then one (omega (arith, one .place)) f in
+      rw entry-parts (laid-then two (omega (arith, two .place)) g)
 
 -- nine parts, as four and four and one
 grouped : (a b c d e f g h i : Bytes)

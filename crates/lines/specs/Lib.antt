@@ -1,5 +1,1 @@
-pub mod Decimal
 pub mod Lines
-pub mod Digits
-pub mod Writing
-pub mod Statements

@@ -2,13 +2,8 @@
 use Prim.Native.Nat.{ℕ}
 use mathlib.Core.List.{[], _∷_, _++_}
 use Rattle.octets.specs.Octets.{Bytes}
-use Rattle.lines.specs.Decimal.{decimal}
-
-abbrev pub space : Bytes
-space = 32 ∷ []
-
-abbrev pub lineFeed : Bytes
-lineFeed = 10 ∷ []
+use Rattle.putting.specs.Marks.{space, lineFeed}
+use Rattle.decimal.specs.Decimal.{decimal}
 
 -- "end dur kept" and a line feed
 unfoldable pub firstLine : Bytes

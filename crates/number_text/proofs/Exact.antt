@@ -1,20 +1,14 @@
 -- Decibels are exact. Assumes nothing.
-use mathlib.Core.Path.{_≡_, refl, ap, _∙_}
+use mathlib.Core.Path.{_≡_, ap, _∙_}
 use mathlib.Core.List.{[], _∷_, _++_}
 use Prim.Native.Nat.{ℕ, zero, suc, _+_, _*_, _-_, _/_, _%_, _^_, _<_}
 use native.Mathlib.Nat.{pow-suc, mul-assoc}
 use native.Mathlib.Omega.{arith}
 use lib.IntN.{natAbs}
-use Rattle.octets.specs.Octets.{Bytes}
-use Rattle.lines.specs.Decimal.{digit, decimal, numberAfter, numberRead}
-use Rattle.lines.specs.Digits.{lowest}
-use Rattle.lines.proofs.Reading.{decimal-right}
+use Rattle.decimal.specs.Decimal.{digit, decimal, numberAfter, numberRead}
+use Rattle.decimal.specs.Digits.{lowest}
+use Rattle.decimal.proofs.Reading.{number-append, decimal-right}
 use Rattle.number_text.specs.Statements.{DecibelsExact}
-
-number-behind : (v : ℕ) (s t : Bytes) → numberAfter v (s ++ t) ≡ numberAfter (numberAfter v s) t
-unfolding numberAfter
-number-behind v [] t = refl
-number-behind v (b ∷ s) t = number-behind (v * 10 + (b - 48)) s t
 
 -- the lowest n digits behind a number v
 number-lowest : (n v x : ℕ) → x < 10 ^ n → numberAfter v (lowest n x) ≡ v * 10 ^ n + x
@@ -25,7 +19,7 @@ number-lowest (suc n) v x h =
     let more : 10 ^ suc n ≡ p * 10 = pow-suc 10 n in
     let less : x / 10 < p = omega arith in
     let product : v * (p * 10) ≡ v * p * 10 = tens v p in
-    number-behind v (lowest n (x / 10)) (digit (x % 10) ∷ [])
+    number-append v (lowest n (x / 10)) (digit (x % 10) ∷ [])
     ∙ ap (λ (w : ℕ). w * 10 + (digit (x % 10) - 48)) (number-lowest n v (x / 10) less)
     ∙ rw (more, product) (omega arith)
   where
@@ -37,7 +31,7 @@ decibels-exact g =
     let m : ℕ = natAbs g in
     let rest : ℕ = m % 256 * 390625 in
     let read : numberRead (decimal (m / 256) ++ lowest 8 rest) ≡ m / 256 * 10 ^ 8 + rest =
-    (number-behind 0 (decimal (m / 256)) (lowest 8 rest)
+    (number-append 0 (decimal (m / 256)) (lowest 8 rest)
     ∙ ap (λ (v : ℕ). numberAfter v (lowest 8 rest)) (decimal-right (m / 256) .number)
     ∙ number-lowest 8 (m / 256) rest (omega arith)) in
     rw read (omega arith)

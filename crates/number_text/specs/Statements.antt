@@ -3,8 +3,8 @@ use Prim.Native.Nat.{_*_, _/_, _%_}
 use mathlib.Core.Path.{_≡_}
 use mathlib.Core.List.{_++_}
 use lib.IntN.{ℤ, natAbs}
-use Rattle.lines.specs.Decimal.{decimal, numberRead}
-use Rattle.lines.specs.Digits.{lowest}
+use Rattle.decimal.specs.Decimal.{decimal, numberRead}
+use Rattle.decimal.specs.Digits.{lowest}
 
 -- the digits before and behind the point, read as one number of 100,000,000ths, are the size of the gain's 256ths
 abbrev pub DecibelsExact : Type 0

@@ -7,7 +7,7 @@ use lib.ListN.{length, length-append}
 use lib.Seq.{paste-zero}
 use Rattle.octets.specs.Octets.{Bytes, copied}
 use Rattle.octets.proofs.Copying.{copied-fits, copied-append, length-copied}
-use Rattle.lines.specs.Writing.{Laid}
+use Rattle.putting.specs.Writing.{Laid}
 
 -- of the text t, which goes to place `from` of the buffer d, s is left to go to place `at` of the buffer e
 pub record Filling (d : Bytes) (from : ℕ) (t : Bytes) (e : Bytes) (at : ℕ) (s : Bytes) : Type 0 where

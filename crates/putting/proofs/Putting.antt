@@ -9,8 +9,8 @@ use lib.ListN.{length, take}
 use lib.Seq.{take-length, take-paste}
 use Rattle.octets.specs.Octets.{Bytes}
 use Rattle.octets.proofs.Copying.{copied-fits, length-copied}
-use Rattle.lines.specs.Writing.{placeBehind, Put, Laid}
-use Rattle.lines.proofs.Laying.{put-all, put-none, laid-next}
+use Rattle.putting.specs.Writing.{placeBehind, Put, Laid}
+use Rattle.putting.proofs.Laying.{put-all, put-none, laid-next}
 
 pub put-laid : {d e : Bytes} {at r : ℕ} {s : Bytes} → at + length s ≤ length d → Laid d at s r e → Put d at s r e
 put-laid {d} {e} {at} {r} {s} room x = put-all (le-ltb (length d) (at + length s) room) x

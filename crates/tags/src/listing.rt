@@ -14,17 +14,17 @@ struct Listing {
 }
 
 fn put_format(out: &mut [u8], head: Head) -> usize {
-    let at = tag_lines::put_number(out, 0, b"version ", head.version as u64);
-    let at = tag_lines::put_number(out, at, b"channels ", head.channels as u64);
-    let at = tag_lines::put_number(out, at, b"preskip ", head.preskip as u64);
-    tag_lines::put_number(out, at, b"rate ", head.rate as u64)
+    let at = head_lines::put_number(out, 0, b"version ", head.version as u64);
+    let at = head_lines::put_number(out, at, b"channels ", head.channels as u64);
+    let at = head_lines::put_number(out, at, b"preskip ", head.preskip as u64);
+    head_lines::put_number(out, at, b"rate ", head.rate as u64)
 }
 
 fn put_streams(out: &mut [u8], at: usize, head: Head) -> usize {
-    let at = tag_lines::put_number(out, at, b"family ", head.family as u64);
-    let at = tag_lines::put_number(out, at, b"streams ", head.streams as u64);
-    let at = tag_lines::put_number(out, at, b"coupled ", head.coupled as u64);
-    tag_lines::put_mapping(out, at, head)
+    let at = head_lines::put_number(out, at, b"family ", head.family as u64);
+    let at = head_lines::put_number(out, at, b"streams ", head.streams as u64);
+    let at = head_lines::put_number(out, at, b"coupled ", head.coupled as u64);
+    head_lines::put_mapping(out, at, head)
 }
 
 // The text whose length stands at this place; empty where it passes the end.
@@ -47,7 +47,7 @@ fn list_comment(l: Listing, packet: &[u8], out: &mut [u8]) -> Listing {
     let p = part_at(packet, l.place);
     let comment = octets::part_of(packet, p.start, p.size);
     let place = std::num::wrapping_add_usize(p.start, p.size);
-    let filled = tag_lines::put_comment(out, l.filled, comment);
+    let filled = comment_lines::put_comment(out, l.filled, comment);
     if filled > l.filled {
         return Listing {
             place,
@@ -58,7 +58,7 @@ fn list_comment(l: Listing, packet: &[u8], out: &mut [u8]) -> Listing {
     let goes_on = write(out, l.filled);
     Listing {
         place,
-        filled: tag_lines::put_comment(out, 0, comment),
+        filled: comment_lines::put_comment(out, 0, comment),
         goes_on,
     }
 }
@@ -80,9 +80,9 @@ fn list_comments(first: Listing, n: usize, packet: &[u8], out: &mut [u8]) -> Lis
 fn put_headers(out: &mut [u8], head: Head, packet: &[u8]) -> usize {
     let vendor = part_at(packet, 8);
     let at = put_format(out, head);
-    let at = tag_lines::put_gain(out, at, head.gain);
+    let at = head_lines::put_gain(out, at, head.gain);
     let at = put_streams(out, at, head);
-    tag_lines::put_text(
+    comment_lines::put_text(
         out,
         at,
         b"vendor ",
@@ -94,7 +94,7 @@ fn put_headers(out: &mut [u8], head: Head, packet: &[u8]) -> usize {
 fn list_in(out: &mut [u8], head: Head, packet: &[u8]) {
     let n = count_of(packet);
     let at = put_headers(out, head, packet);
-    let filled = tag_lines::put_number(out, at, b"comments ", n as u64);
+    let filled = head_lines::put_number(out, at, b"comments ", n as u64);
     let first = Listing {
         place: tags_layout::first_comment(packet),
         filled,

@@ -6,7 +6,7 @@ use borrow.Author.Needs.{needs}
 use denote.Ref.{now}
 use lib.ListN.{length}
 use Rattle.octets.specs.Octets.{Octets}
-use Rattle.lines.specs.Decimal.{decimal}
+use Rattle.decimal.specs.Decimal.{decimal}
 use Rattle.entry_lines.specs.Code.{tailLine}
 use Rattle.entry_lines.proofs.Reading.{length-tail, whole, has}
 use Rattle.entry_lines.proofs.bytes_of.Statement.{statement}

@@ -5,7 +5,7 @@ use native.Mathlib.Omega.{arith}
 use borrow.Author.Needs.{needs}
 use denote.Ref.{now}
 use lib.ListN.{length, length-set}
-use Rattle.lines.proofs.Laying.{four-stores, laid-as}
+use Rattle.putting.proofs.Laying.{four-stores, laid-as}
 use Rattle.escapes.proofs.Escaping.{escape-backslash, escape-other}
 use Rattle.escapes.proofs.put_escape.Statement.{statement}
 use Rattle.escapes.proofs.put_escape.Tie as tie

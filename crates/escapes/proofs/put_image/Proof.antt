@@ -5,7 +5,7 @@ use native.Mathlib.Omega.{arith}
 use borrow.Author.Needs.{needs}
 use denote.Ref.{now}
 use lib.ListN.{length}
-use Rattle.lines.proofs.Laying.{one-store, laid-as}
+use Rattle.putting.proofs.Laying.{one-store, laid-as}
 use Rattle.escapes.proofs.Escaping.{shown, not-shown}
 use Rattle.escapes.proofs.put_image.Statement.{statement}
 use Rattle.escapes.proofs.put_image.Tie as tie

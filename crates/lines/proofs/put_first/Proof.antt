@@ -6,8 +6,8 @@ use borrow.Author.Needs.{needs}
 use borrow.Author.Tests.{ltb-false}
 use denote.Ref.{now}
 use lib.ListN.{length}
+use Rattle.putting.proofs.Laying.{laid-as, put-all, put-none}
 use Rattle.lines.specs.Lines.{firstLine}
-use Rattle.lines.proofs.Laying.{laid-as, put-all, put-none}
 use Rattle.lines.proofs.put_first.Statement.{statement}
 use Rattle.lines.proofs.put_first.Tie as tie
 

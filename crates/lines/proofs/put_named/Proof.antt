@@ -1,15 +1,16 @@
 -- `lines::put_named` meets its contract: the digits right behind the name. Assumes nothing.
 use mathlib.Core.Path.{refl}
 use native.Mathlib.Omega.{arith}
-use Rattle.lines.proofs.Laying.{laid-as, laid-next}
+use Rattle.putting.proofs.Laying.{laid-as}
+use Rattle.putting.proofs.Putting.{laid-then}
 use Rattle.lines.proofs.put_named.Statement.{statement}
 use Rattle.lines.proofs.put_named.Tie as tie
 
 returns : tie.Need-returns
 returns c =
     let name = c .before .before .before .before .before .before in
-    laid-next (laid-as _ refl refl (name .copy-at .ensures)) (c .before .before .put-decimal .ensures) (omega arith)
+    laid-then (laid-as _ refl refl (name .copy-at .ensures)) (omega arith) (c .before .before .put-decimal .ensures)
 
 pub put-named-spec : {M : Type 1} → statement M
 put-named-spec =
-    tie.close (tie.spec (λ c κs. tt) (λ c. omega arith) (λ c κs. omega arith) (λ c. omega arith) returns)
+    tie.close (tie.spec (λ c κs. tt) (λ c. omega arith) (λ c κs. tt) (λ c. omega arith) returns)

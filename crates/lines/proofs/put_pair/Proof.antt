@@ -2,8 +2,8 @@
 use native.Mathlib.Omega.{arith}
 use denote.Ref.{now}
 use lib.ListN.{length-append}
-use Rattle.lines.specs.Decimal.{decimal}
-use Rattle.lines.proofs.Laying.{laid-next}
+use Rattle.putting.proofs.Laying.{laid-next}
+use Rattle.decimal.specs.Decimal.{decimal}
 use Rattle.lines.proofs.put_pair.Statement.{statement}
 use Rattle.lines.proofs.put_pair.Tie as tie
 

@@ -8,9 +8,9 @@ use borrow.Author.Tests.{ltb-false}
 use denote.Ref.{now}
 use lib.Dec.{ltb}
 use lib.ListN.{length}
+use Rattle.putting.proofs.Laying.{one-store, laid-as, put-all, put-none}
 use Rattle.lines.specs.Lines.{refusedBy, onPage, refusedLine}
 use Rattle.lines.proofs.Lines.{length-pair, length-refused, laid-refused}
-use Rattle.lines.proofs.Laying.{one-store, laid-as, put-all, put-none}
 use Rattle.lines.proofs.put_refused.Statement.{statement}
 use Rattle.lines.proofs.put_refused.Tie as tie
 

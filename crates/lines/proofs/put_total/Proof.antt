@@ -8,9 +8,9 @@ use borrow.Author.Tests.{ltb-false}
 use denote.Ref.{now}
 use lib.Dec.{ltb}
 use lib.ListN.{length, length-set}
+use Rattle.putting.proofs.Laying.{one-store, laid-as, put-all, put-none}
 use Rattle.lines.specs.Lines.{totalKept, andSkipped, andTrimmed, andHole, totalLine}
 use Rattle.lines.proofs.Lines.{length-pair, length-total, laid-total}
-use Rattle.lines.proofs.Laying.{one-store, laid-as, put-all, put-none}
 use Rattle.lines.proofs.put_total.Statement.{statement}
 use Rattle.lines.proofs.put_total.Tie as tie
 

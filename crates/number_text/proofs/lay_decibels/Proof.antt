@@ -4,9 +4,9 @@ use borrow.Author.Needs.{needs}
 use denote.Ref.{now}
 use lib.IntN.{natAbs}
 use mir.Facts.{toZ-ofZ}
-use Rattle.lines.specs.Writing.{Laid}
+use Rattle.putting.specs.Writing.{Laid}
 use Rattle.number_text.specs.Numbers.{signOf}
-use Rattle.number_text.proofs.Texts.{same-sign, room-whole, room-rest, laid-decibels}
+use Rattle.number_text.proofs.Texts.{same-sign, room-rest, laid-decibels}
 use Rattle.number_text.proofs.lay_decibels.Statement.{statement}
 use Rattle.number_text.proofs.lay_decibels.Tie as tie
 
@@ -16,25 +16,18 @@ sized c = c .size-of .ensures .0 ∙ ap natAbs (toZ-ofZ (c .before .before .fits
 
 -- the sign stands
 signed : (c : tie.After-lay-sign)
-    → let a = c .before .before .before .before .args in Laid (now (a .out)) 0 (signOf (a .g)) (c .lay-sign .result) (c .lay-sign .last .0)
+    → let a = c .before .before .before .before .args in Laid (now (a .out)) (a .at) (signOf (a .g)) (c .lay-sign .result) (c .lay-sign .last .0)
 signed c = same-sign (toZ-ofZ (c .before .before .before .before .fits .g)) (c .lay-sign .ensures)
 
-lay-decimal-requires : tie.Need-lay-decimal-requires
-lay-decimal-requires c κs =
-    let sign = c .before .before .before in
-    let size = sign .before .before in
-    let s = size .before .before in
-    room-whole (now (s .args .out)) (s .args .g) (size .size-of .result) (sized size) (size .size-of .ensures .1) (signed sign) (s .pre)
-
-lay-lowest-requires : tie.Need-lay-lowest-requires
-lay-lowest-requires c κs =
+lay-eight-requires : tie.Need-lay-eight-requires
+lay-eight-requires c κs =
     let point = c .before .before .before in
     let whole = point .before .before .before .before .before in
     let sign = whole .before .before .before .before in
     let size = sign .before .before in
     let s = size .before .before in
-    room-rest (now (s .args .out)) (s .args .g) (size .size-of .result) (sized size) (size .size-of .ensures .1) (signed sign) (s .pre)
-    (whole .lay-decimal .ensures) (point .put-bytes .ensures)
+    room-rest (now (s .args .out)) (s .args .at) (s .args .g) (size .size-of .result) (sized size) (size .size-of .ensures .1) (signed sign) (s .pre)
+    (whole .put-decimal .ensures) (point .put-bytes .ensures)
 
 returns : tie.Need-returns
 returns c =
@@ -45,12 +38,12 @@ returns c =
     let sign = whole .before .before .before .before in
     let size = sign .before .before in
     let s = size .before .before in
-    laid-decibels (now (s .args .out)) (s .args .g) (size .size-of .result) (sized size) (size .size-of .ensures .1) (signed sign) (s .pre)
-    (whole .lay-decimal .ensures) (point .put-bytes .ensures) (rest .lay-lowest .ensures) (end .put-bytes2 .ensures)
+    laid-decibels (now (s .args .out)) (s .args .at) (s .args .g) (size .size-of .result) (sized size) (size .size-of .ensures .1) (signed sign) (s .pre)
+    (whole .put-decimal .ensures) (point .put-bytes .ensures) (rest .lay-eight .ensures) (end .put-bytes2 .ensures)
 
 pub lay-decibels-spec : {M : Type 1} → statement M
 lay-decibels-spec =
     tie.close
     (tie.spec
-    (λ c κs. search needs) (λ c κs. search needs) lay-decimal-requires (λ c. search needs) (λ c κs. search needs) (λ c. search needs)
-    lay-lowest-requires (λ c. search needs) (λ c κs. search needs) (λ c. search needs) returns)
+    (λ c κs. search needs) (λ c κs. search needs) (λ c κs. search needs) (λ c. search needs) (λ c κs. search needs) (λ c. search needs)
+    lay-eight-requires (λ c. search needs) (λ c κs. search needs) (λ c. search needs) returns)

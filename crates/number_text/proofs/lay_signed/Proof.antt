@@ -4,9 +4,9 @@ use borrow.Author.Needs.{needs}
 use denote.Ref.{now}
 use lib.IntN.{natAbs}
 use mir.Facts.{toZ-ofZ}
-use Rattle.lines.specs.Writing.{Laid}
+use Rattle.putting.specs.Writing.{Laid}
 use Rattle.number_text.specs.Numbers.{signOf}
-use Rattle.number_text.proofs.Texts.{same-sign, room-signed, laid-signed}
+use Rattle.number_text.proofs.Texts.{same-sign, laid-signed}
 use Rattle.number_text.proofs.lay_signed.Statement.{statement}
 use Rattle.number_text.proofs.lay_signed.Tie as tie
 
@@ -18,17 +18,12 @@ signed c = same-sign (toZ-ofZ (c .before .before .before .fits .g)) (c .lay-sign
 sized : (c : tie.After-size-of) → c .size-of .result ≡ natAbs (c .before .before .before .before .before .before .before .args .g)
 sized c = c .size-of .ensures .0 ∙ ap natAbs (toZ-ofZ (c .before .before .before .before .before .before .before .fits .g))
 
-lay-decimal-requires : tie.Need-lay-decimal-requires
-lay-decimal-requires c κs =
-    let s = c .before .before .before .before .before .before .before in
-    room-signed (now (s .args .out)) (s .args .g) (c .size-of .result) (sized c) (c .size-of .ensures .1) (signed (c .before .before .before .before)) (s .pre)
-
 returns : tie.Need-returns
 returns c =
     let size = c .before .before .before in
     let s = c .before .before .before .before .before .before .before .before .before .before in
-    laid-signed (now (s .args .out)) (s .args .g) (size .size-of .result) (sized size) (size .size-of .ensures .1) (signed (c .before .before .before .before .before .before .before)) (s .pre)
-    (c .before .before .lay-decimal .ensures)
+    laid-signed (now (s .args .out)) 0 (s .args .g) (size .size-of .result) (sized size) (size .size-of .ensures .1)
+    (signed (c .before .before .before .before .before .before .before)) (s .pre) (c .before .before .put-decimal .ensures)
 
 pub lay-signed-spec : {M : Type 1} → statement M
-lay-signed-spec = tie.close (tie.spec (λ c κs. search needs) (λ c κs. search needs) lay-decimal-requires (λ c. search needs) returns)
+lay-signed-spec = tie.close (tie.spec (λ c κs. search needs) (λ c κs. search needs) (λ c κs. search needs) (λ c. search needs) returns)

@@ -3,8 +3,8 @@ use mathlib.Core.Path.{ap}
 use borrow.Author.Needs.{needs}
 use mir.Facts.{toZ-ofZ}
 use Rattle.putting.proofs.Putting.{put-made, put-known}
-use Rattle.number_text.specs.Numbers.{decibels}
-use Rattle.number_text.proofs.Texts.{length-decibels}
+use Rattle.number_text.specs.Numbers.{decibelsEnd}
+use Rattle.number_text.proofs.Texts.{length-end}
 use Rattle.number_text.proofs.put_decibels.Statement.{statement}
 use Rattle.number_text.proofs.put_decibels.Tie as tie
 
@@ -12,9 +12,9 @@ returns : tie.Need-returns
 returns c =
     let made = c .before .before .before .before .before .before .before in
     let s = made .before .before .before in
-    let same = ap decibels (toZ-ofZ (s .fits .g)) in
+    let same = ap decibelsEnd (toZ-ofZ (s .fits .g)) in
     put-known same
-    (put-made (made .lay-decibels .ensures) (rw (← same) at (length-decibels (s .args .g) (s .fits .g .sfits))) (c .before .before .before .part-of .ensures) (c .before .before .put-bytes .ensures))
+    (put-made (made .lay-end .ensures) (rw (← same) at (length-end (s .args .g) (s .fits .g .sfits))) (c .before .before .before .part-of .ensures) (c .before .before .put-bytes .ensures))
 
 pub put-decibels-spec : {M : Type 1} → statement M
 put-decibels-spec =

@@ -2,7 +2,7 @@
 use mathlib.Core.Path.{refl}
 use native.Mathlib.Omega.{arith}
 use borrow.Author.Needs.{needs}
-use Rattle.lines.proofs.Laying.{laid-as}
+use Rattle.putting.proofs.Laying.{laid-as}
 use Rattle.putting.proofs.Putting.{put-laid, put-nothing}
 use Rattle.putting.proofs.put_bytes.Statement.{statement}
 use Rattle.putting.proofs.put_bytes.Tie as tie

@@ -1,0 +1,82 @@
+// The lines that show an identification header. Each public function puts one whole line into a lent buffer, or nothing where
+// it does not fit, and answers the place behind it.
+ghost use mathlib.Core.List.{_++_};
+ghost use Prim.Native.Nat.{_+_, _≤_};
+ghost use lib.ListN.{length};
+ghost use Rattle.putting.specs.Marks.{space, lineFeed};
+ghost use Rattle.putting.specs.Writing.{Put, Laid};
+ghost use Rattle.decimal.specs.Decimal.{decimal};
+ghost use Rattle.head_fields.specs.Right.{usedPlaces};
+ghost use Rattle.number_text.specs.Numbers.{signedDecimal, decibelsEnd};
+ghost use Rattle.head_lines.specs.Lines.{numberLine, gainLine, spaced, mappingLine};
+use head_fields::Head;
+
+// A number behind its name.
+pub fn put_number(out: &mut [u8], at: usize, name: &[u8], x: u64) -> usize
+    ensures { λ r. ⌜ Put (now (out .entry)) at (numberLine (now (name .entry)) x) r (now (out .exit)) ⌝ }
+{
+    let mut end = [0u8; 21];
+    let n = decimal::put_ended(&mut end, 0, x, b'\n');
+    putting::put_both(out, at, name, octets::part_of(&end, 0, n))
+}
+
+fn lay_gain(out: &mut [u8], g: i16) -> usize
+    requires { ⌜ 56 ≤ length (now out) ⌝ }
+    ensures { λ r. ⌜ Laid (now (out .entry)) 0 (signedDecimal g ++ decibelsEnd g) r (now (out .exit)) ⌝ }
+{
+    let next = number_text::put_signed(out, 0, g);
+    number_text::put_decibels(out, next, g)
+}
+
+// A gain, and the same in decibels.
+pub fn put_gain(out: &mut [u8], at: usize, g: i16) -> usize
+    ensures { λ r. ⌜ Put (now (out .entry)) at (gainLine g) r (now (out .exit)) ⌝ }
+{
+    let mut end = [0u8; 56];
+    let n = lay_gain(&mut end, g);
+    putting::put_both(out, at, b"gain ", octets::part_of(&end, 0, n))
+}
+
+// A number behind a space.
+fn lay_index(out: &mut [u8], at: usize, i: u8) -> usize
+    requires { ⌜ at + length (space ++ decimal i) ≤ length (now out) ⌝ }
+    ensures { λ r. ⌜ Laid (now (out .entry)) at (space ++ decimal i) r (now (out .exit)) ⌝ }
+{
+    let next = putting::put_bytes(out, at, b" ");
+    decimal::put_decimal(out, next, i as u64)
+}
+
+// Numbers, each behind a space.
+fn lay_spaced(out: &mut [u8], s: &[u8]) -> usize
+    requires { ⌜ length (spaced (now s)) ≤ length (now out) ⌝ }
+    ensures { λ r. ⌜ Laid (now (out .entry)) 0 (spaced (now (s .entry))) r (now (out .exit)) ⌝ }
+{
+    let mut place = 0;
+    let mut i = 0;
+    while i < s.len() {
+        place = lay_index(out, place, s[i]);
+        i += 1;
+    }
+    place
+}
+
+fn lay_mapping(out: &mut [u8], s: &[u8]) -> usize
+    requires { ⌜ (length (now s) ≤ 255) × (1021 ≤ length (now out)) ⌝ }
+    ensures { λ r. ⌜ Laid (now (out .entry)) 0 (spaced (now (s .entry)) ++ lineFeed) r (now (out .exit)) × (length (spaced (now (s .entry))) ≤ 1020) ⌝ }
+{
+    let last = lay_spaced(out, s);
+    putting::put_bytes(out, last, b"\n")
+}
+
+// The places of the channel mapping that are used.
+pub fn put_mapping(out: &mut [u8], at: usize, head: Head) -> usize
+    ensures { λ r. ⌜ Put (now (out .entry)) at (mappingLine (usedPlaces head)) r (now (out .exit)) ⌝ }
+{
+    let mut end = [0u8; 1021];
+    let mapping = head.mapping;
+    let n = lay_mapping(
+        &mut end,
+        octets::part_of(&mapping, 0, octets::wide(head.channels)),
+    );
+    putting::put_both(out, at, b"mapping", octets::part_of(&end, 0, n))
+}
