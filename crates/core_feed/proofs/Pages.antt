@@ -32,7 +32,7 @@ use Rattle.stream.specs.State.{nothing, State, isEnded, unfinished, expectingIn
 use Rattle.stream.specs.Packets.{seen}
 use Rattle.stream.specs.Rules.{wrongFlags, fieldChecks, checksOn, verdict}
 use Rattle.stream.specs.Feed.{carriedIn, view, Lent, isShort, carryAfter, fedBy, feed, Reader, readerOf, FedIs, shortBy, Fed}
-use Rattle.stream.proofs.Step.{feeds, feeds-short}
+use Rattle.stream.proofs.Step.{still-ended, feeds, feeds-short}
 use Rattle.core_feed.specs.Stages.{lateChecks, fedFrom, fedLate, earlyChecks, Awaits}
 use Rattle.header_page.specs.Header.{isHeader}
 use Rattle.header_page.proofs.Late.{lateIn}
@@ -58,18 +58,6 @@ ready core due c p going e late = by (core .phase) refl
     by Audio q = let g : due .phase ≡ Audio = (let f = rw q at e in ap (λ (s : State). s .phase) f) in absurd (true≢false (rw g at late))
     by Opened q = let g : due .phase ≡ Audio = (let f = rw q at e in ap (λ (s : State). s .phase) f) in absurd (true≢false (rw g at late))
     by Ended q = absurd (true≢false (rw q at going))
-
--- a reader that has ended expects nothing else
-still-ended : (s : State) (p : Page) → isEnded (expecting s p .phase) ≡ isEnded (s .phase)
-unfolding expecting
-still-ended s p = by (s .phase) refl
-  where
-    by : (ph : Phase) → s .phase ≡ ph → isEnded (expectingIn ph s p .phase) ≡ isEnded (s .phase)
-    by First q = ap isEnded (sym q)
-    by Comment q = refl
-    by Audio q = refl
-    by Opened q = ap isEnded (sym q)
-    by Ended q = refl
 
 -- ---- 5 to 8
 

@@ -133,15 +133,6 @@ fn feed_more(
     }
 }
 
-// What feeding tells of bytes that the end of the input cuts off inside a page.
-fn refusal_of_rest(reader: Reader) -> Refusal {
-    if reader::is_ended(reader) {
-        Refusal::AfterEnd
-    } else {
-        Refusal::NotOnePage
-    }
-}
-
 // The lines of packets, as many as the output has room for; where it has no more, it is written and emptied.
 fn put_lines(w: Listing, ends: &[u64], sizes: &[u64], kept: &[u64], out: &mut [u8]) -> Step {
     let put = entry_lines::put_entries(
@@ -199,7 +190,7 @@ fn read_on(w: Listing, buffer: &mut [u8], out: &mut [u8]) -> Step {
             if n == 0 {
                 end_with_total(w, out);
             } else {
-                end_with_refusal(w, refusal_of_rest(w.reader), out);
+                end_with_refusal(w, cut_rest::refusal_of_rest(w.reader), out);
             }
             Step::Ends
         }

@@ -15,12 +15,14 @@ use Rattle.refusal.specs.declared.Refusal.the-variants.{ShortRoom}
 use Rattle.refusal.specs.Checks.{firstOf}
 use Rattle.refusal.specs.Told.{Told, gives, refuses}
 use Rattle.refusal.specs.Numbers.{numberOf}
+use Rattle.stream.specs.declared.Phase.{Phase}
+use Rattle.stream.specs.declared.Phase.the-variants.{First, Comment, Audio, Opened, Ended}
 use Rattle.stream.specs.declared.Pending.{Pending}
 use Rattle.stream.specs.declared.Pending.the-variants.{Nothing, Held, Dropped}
 use Rattle.stream.specs.declared.Core.{Core}
 use Rattle.stream.specs.Page.{Page, pageOf, whole, rest}
 use Rattle.stream.specs.Readings.{Readings}
-use Rattle.stream.specs.State.{Carried, held, State, expecting}
+use Rattle.stream.specs.State.{Carried, held, State, isEnded, expectingIn, expecting}
 use Rattle.stream.specs.Packets.{Seen, seen, packetMax, isLong}
 use Rattle.stream.specs.Rules.{checksOn, Stamp, stamps, stampsOn, nextOn, verdict, after, stamped}
 use Rattle.stream.specs.Feed.{Reader, carriedIn, view, coreOf, stampOf, entries, entriesOn, Lent, isShort, listMax, firstPiece, appended, isLate, carryAfter, Fed, fedBy, feed}
@@ -43,6 +45,18 @@ expected r c b = expecting (view (r .core) c) (pageOf b)
 
 abbrev pub saw : Reader → Bytes → Bytes → Seen
 saw r c b = seen (expected r c b) (pageOf b)
+
+-- a reader that has ended expects nothing else
+pub still-ended : (s : State) (p : Page) → isEnded (expecting s p .phase) ≡ isEnded (s .phase)
+unfolding expecting
+still-ended s p = by (s .phase) refl
+  where
+    by : (ph : Phase) → s .phase ≡ ph → isEnded (expectingIn ph s p .phase) ≡ isEnded (s .phase)
+    by First q = ap isEnded (sym q)
+    by Comment q = refl
+    by Audio q = refl
+    by Opened q = ap isEnded (sym q)
+    by Ended q = refl
 
 pub feeds : (R : Readings) (r : Reader) (m : Lent) (b : Bytes) → isShort m ≡ false
     → feed R r m b ≡ fedBy (verdict R (view (r .core) (m .carry)) b) R r m (expected r (m .carry) b) (pageOf b) (saw r (m .carry) b)

@@ -115,16 +115,17 @@ fn feed_page(p: Progress, page: &[u8], carry: &mut [u8]) -> Progress {
     fed_page(p, fed, page_layout::body_of(page))
 }
 
-// At the end of the input: bytes of a page that is not whole are fed as they stand.
-fn feed_rest(p: Progress, rest: &[u8], carry: &mut [u8]) -> Progress {
-    if rest.len() == 0 {
+// At the end of the input, where n bytes of a page that is not whole are left.
+fn ended(p: Progress, n: usize) -> Progress {
+    if n == 0 {
         return stopped(p, Stage::Cut);
     }
-    feed_page(p, rest, carry)
+    let why = cut_rest::refusal_of_rest(p.reader);
+    stopped(p, Stage::Refused(refusal::number(why)))
 }
 
 // Reads on behind the first n bytes.
-fn read_turn(p: Progress, n: usize, buffer: &mut [u8], carry: &mut [u8]) -> State {
+fn read_turn(p: Progress, n: usize, buffer: &mut [u8]) -> State {
     match read_behind(buffer, n) {
         Got::Bytes(end) => State {
             progress: p,
@@ -132,7 +133,7 @@ fn read_turn(p: Progress, n: usize, buffer: &mut [u8], carry: &mut [u8]) -> Stat
             end,
         },
         Got::Nothing => State {
-            progress: feed_rest(p, octets::part_of(buffer, 0, n), carry),
+            progress: ended(p, n),
             start: 0,
             end: 0,
         },
@@ -158,7 +159,7 @@ fn turn(s: State, buffer: &mut [u8], carry: &mut [u8]) -> State {
         }
         End::Cut => {
             let n = buffers::move_down(buffer, s.start, s.end);
-            read_turn(p, n, buffer, carry)
+            read_turn(p, n, buffer)
         }
     }
 }
