@@ -2,10 +2,10 @@
 use mathlib.Core.Path.{refl}
 use Rattle.octets.specs.Octets.{total}
 use Rattle.refusal.specs.Checks.{firstOf}
-use Rattle.opus_toc.specs.Toc.{configSamples, frameSamples}
-use Rattle.opus_frames.specs.Frames.{coded, codedTimes, paddingFrom}
-use Rattle.opus_frames.specs.Packet.{countedShape, shapeOf, parse}
-use Rattle.opus_packet.specs.Streams.{lengthsOf, allAre, readPacket}
+use Rattle.packet_toc.specs.Toc.{configSamples, frameSamples}
+use Rattle.packet_frames.specs.Frames.{coded, codedTimes, paddingFrom}
+use Rattle.packet_frames.specs.Packet.{countedShape, shapeOf, parse}
+use Rattle.packet_reader.specs.Streams.{lengthsOf, allAre, readPacket}
 use Rattle.granule.specs.Samples.{tally, trimmedOf, keptOf}
 use Rattle.granule.specs.Judging.{from, placed, judge}
 use Rattle.demands.specs.Cases.{countsOf, CasesHold}

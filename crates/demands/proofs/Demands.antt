@@ -1,10 +1,10 @@
 -- The demands hold: the theorems of the crates, with the real readings. Assumes nothing.
-use Rattle.ogg_crc.specs.Crc.{pageCrc}
+use Rattle.page_crc.specs.Crc.{pageCrc}
 use Rattle.page_writer.proofs.RoundTrip as pageWriter
 use Rattle.head_writer.proofs.RoundTrip as headWriter
-use Rattle.opus_tags.proofs.Together.{parts-together}
+use Rattle.tags_reader.proofs.Together.{parts-together}
 use Rattle.tags_writer.proofs.RoundTrip as tagsWriter
-use Rattle.opus_packet.proofs.Legal.{legal-lengths}
+use Rattle.packet_reader.proofs.Legal.{legal-lengths}
 use Rattle.stream.proofs.Step.{refusal-keeps}
 use Rattle.stream.proofs.Lists.{accepted-shows}
 use Rattle.stream.proofs.Real.{readings-agree, opens-stream}

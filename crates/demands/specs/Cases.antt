@@ -7,7 +7,7 @@ use mathlib.Core.Bool.{Bool, true, false}
 use mathlib.Core.List.{List, [], _∷_, map}
 use Rattle.octets.specs.Octets.{Bytes}
 use Rattle.refusal.specs.Told.{Told, gives, refuses}
-use Rattle.opus_packet.specs.Streams.{readPacket}
+use Rattle.packet_reader.specs.Streams.{readPacket}
 use Rattle.granule.specs.declared.Position.{Position}
 use Rattle.granule.specs.declared.Position.the-variants.{Unset, At}
 use Rattle.granule.specs.declared.Placed.{Placed}

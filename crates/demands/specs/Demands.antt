@@ -6,12 +6,12 @@ use mathlib.Core.List.{List, [], _∷_}
 use lib.ListN.{length, drop}
 use Rattle.octets.specs.Octets.{Bytes, Octets}
 use Rattle.refusal.specs.Told.{gives, refuses}
-use Rattle.ogg_crc.specs.Crc.{pageCrc}
+use Rattle.page_crc.specs.Crc.{pageCrc}
 use Rattle.page_writer.specs.Statements as pageWriter
 use Rattle.head_writer.specs.Statements as headWriter
-use Rattle.opus_tags.specs.Statements as opusTags
+use Rattle.tags_reader.specs.Statements as opusTags
 use Rattle.tags_writer.specs.Statements as tagsWriter
-use Rattle.opus_packet.specs.Statements as opusPacket
+use Rattle.packet_reader.specs.Statements as opusPacket
 use Rattle.stream.specs.Page.{pageOf, continued}
 use Rattle.stream.specs.Readings.{Readings, readings}
 use Rattle.stream.specs.Feed.{Reader, start, openPartWay, Lent, feed, Taken}

@@ -13,21 +13,21 @@ use Rattle.refusal.specs.Numbers.{numberOf}
 use Rattle.refusal.specs.declared.Refusal.the-variants.{UnfitFields}
 use Rattle.refusal.specs.Checks.{_when_, firstOf}
 use Rattle.refusal.specs.Told.{Told, gives, refuses, retold}
-use Rattle.ogg_crc.specs.Crc.{pageCrc}
+use Rattle.page_crc.specs.Crc.{pageCrc}
 use Rattle.page_layout.specs.declared.PageHeader.{PageHeader}
 use Rattle.page_layout.specs.Page.{lacingOf, bodyOf}
-use Rattle.ogg_page.specs.declared.PageRead.{PageRead}
-use Rattle.ogg_page.specs.declared.PageRead.the-variants.{Page, Refused as NoPage}
-use Rattle.ogg_page.specs.Reading.{readPage, toldRead}
+use Rattle.page_reader.specs.declared.PageRead.{PageRead}
+use Rattle.page_reader.specs.declared.PageRead.the-variants.{Page, Refused as NoPage}
+use Rattle.page_reader.specs.Reading.{readPage, toldRead}
 use Rattle.page_writer.specs.declared.PageWritten.{PageWritten}
 use Rattle.page_writer.specs.declared.PageWritten.the-variants.{Bytes as PageBytes, Refused as PageRefused}
 use Rattle.page_writer.specs.Writing.{writeChecks, writeTold as pageTold, writeOut as pageOut, toldWritten as toldPage, Wrote as WrotePage}
 use Rattle.head_fields.specs.declared.Head.{Head}
 use Rattle.head_numbers.specs.Numbers.{headNumbers, fitting, headFrom}
-use Rattle.opus_head.specs.declared.HeadRead.{HeadRead}
-use Rattle.opus_head.specs.declared.Verdict.{Verdict}
-use Rattle.opus_head.specs.declared.Verdict.the-variants.{Right, Refused}
-use Rattle.opus_head.specs.Reading.{readHead, toldBy, HeadIs}
+use Rattle.head_reader.specs.declared.HeadRead.{HeadRead}
+use Rattle.head_reader.specs.declared.Verdict.{Verdict}
+use Rattle.head_reader.specs.declared.Verdict.the-variants.{Right, Refused}
+use Rattle.head_reader.specs.Reading.{readHead, toldBy, HeadIs}
 use Rattle.head_writer.specs.declared.HeadWritten.{HeadWritten}
 use Rattle.head_writer.specs.declared.HeadWritten.the-variants.{Bytes as HeadBytes, Refused as HeadRefused}
 use Rattle.head_writer.specs.Writing.{toldWritten as toldHead, Wrote as WroteHead}

@@ -8,7 +8,7 @@ use Rattle.refusal.specs.Told.{Told, gives, refuses, retold, numberIn}
 use Rattle.head_fields.specs.declared.Head.{Head}
 use Rattle.stream.specs.declared.Counts.{Counts}
 use Rattle.stream.specs.Feed.{Reader, openPartWay, Lent, lentOf, Taken}
-use Rattle.state_numbers.specs.Numbers.{numbersOf}
+use Rattle.feed_numbers.specs.Numbers.{numbersOf}
 use Rattle.reader.specs.declared.StateOpened.{StateOpened}
 use Rattle.reader.specs.declared.StateFed.{StateFed}
 use Rattle.reader.specs.Numbers.{openedNumber, numbersOpened, StateOpenedIs, toldState, numbersAfter, StateFedIs}

@@ -11,18 +11,18 @@ use mir.Val.{toZ, ofZ}
 use Rattle.octets.specs.Pick.{pick}
 use Rattle.octets.specs.Octets.{Bytes}
 use Rattle.refusal.specs.Told.{Told, gives, refuses, retold, numberIn}
-use Rattle.ogg_crc.specs.Crc.{pageCrc}
+use Rattle.page_crc.specs.Crc.{pageCrc}
 use Rattle.page_layout.specs.declared.PageHeader.{PageHeader}
 use Rattle.page_layout.specs.Page.{lacingOf, bodyOf}
-use Rattle.ogg_page.specs.Reading.{readPage}
+use Rattle.page_reader.specs.Reading.{readPage}
 use Rattle.page_writer.specs.Writing.{writeTold, writeOut}
-use Rattle.opus_packet.specs.Streams.{readPacket}
+use Rattle.packet_reader.specs.Streams.{readPacket}
 use Rattle.head_fields.specs.declared.Head.{Head}
 use Rattle.head_numbers.specs.Numbers.{headNumbers, fitting, headFrom}
-use Rattle.opus_head.specs.Reading.{readHead}
+use Rattle.head_reader.specs.Reading.{readHead}
 use Rattle.head_writer.specs.Writing as headWriting
 use Rattle.tags_layout.specs.declared.Part.{Part}
-use Rattle.opus_tags.specs.Reading.{readTags, commentCount, findVendor, findComment, readGain}
+use Rattle.tags_reader.specs.Reading.{readTags, commentCount, findVendor, findComment, readGain}
 use Rattle.tags_writer.specs.Writing as tagsWriting
 use Rattle.old_clock.specs.declared.Clock.{Clock}
 use Rattle.old_clock.specs.Clock.{addLength}

@@ -6,11 +6,11 @@ use mathlib.Core.List.{List, [], _∷_}
 use Rattle.octets.specs.Pick.{pick}
 use Rattle.octets.specs.Octets.{Bytes}
 use Rattle.refusal.specs.Told.{Told, refuses, retold, numberIn}
-use Rattle.ogg_crc.specs.Crc.{pageCrc}
+use Rattle.page_crc.specs.Crc.{pageCrc}
 use Rattle.stream.specs.declared.Counts.{Counts}
 use Rattle.stream.specs.Readings.{readings}
 use Rattle.stream.specs.Feed.{Reader, openPartWay, Lent, Taken, Fed, feed}
-use Rattle.state_numbers.specs.Numbers.{numbersOf, readerFrom}
+use Rattle.feed_numbers.specs.Numbers.{numbersOf, readerFrom}
 use Rattle.head_numbers.specs.Numbers.{fitting, headFrom}
 use Rattle.embulgri.specs.Answers.{stored, Answered}
 

@@ -1,33 +1,33 @@
 // The library for programs in C, Rust and Python: numbers and slices only. include/embulgri.h declares these functions.
 ghost use mathlib.Core.Path.{_≡_};
-ghost use Rattle.ogg_crc.specs.Crc.{crc};
+ghost use Rattle.page_crc.specs.Crc.{crc};
 ghost use Rattle.tags_layout.specs.Finding.{toldPart};
 ghost use Rattle.stream.specs.Feed.{start as started, lentOf};
-ghost use Rattle.state_numbers.specs.Numbers.{numbersOf};
+ghost use Rattle.feed_numbers.specs.Numbers.{numbersOf};
 ghost use Rattle.embulgri.specs.Answers.{PageIn, PageOut, PacketIn, HeadIn, HeadLaid, TagsIn, PartIn, VendorIn, CommentIn, GainIn, TagsOut, ClockAfter};
 ghost use Rattle.embulgri.specs.Feeding.{OpenedIn, pageRecord, FedIn};
+use head_reader::Verdict;
 use head_writer::HeadWritten;
-use ogg_page::PageRead;
 use old_clock::Added;
 use old_clock::Clock;
-use opus_comment::GainRead;
-use opus_head::Verdict;
-use opus_packet::PacketRead;
-use opus_tags::TagsRead;
+use packet_reader::PacketRead;
 use page_layout::PageHeader;
+use page_reader::PageRead;
 use page_writer::PageWritten;
 use reader::StateFed;
 use reader::StateOpened;
 use refusal::Refusal;
 use stream::Counts;
+use tags_comment::GainRead;
 use tags_layout::PartRead;
+use tags_reader::TagsRead;
 use tags_writer::TagsWritten;
 
 #[no_mangle]
 pub extern "C" fn embulgri_checksum(bytes: &[u8]) -> u32
     ensures { λ r. ⌜ r ≡ crc 0 (now (bytes .entry)) ⌝ }
 {
-    ogg_crc::checksum(bytes)
+    page_crc::checksum(bytes)
 }
 
 // Into `out`: flags, granule position, serial, sequence, number of lacing values, body length.
@@ -35,7 +35,7 @@ pub extern "C" fn embulgri_checksum(bytes: &[u8]) -> u32
 pub extern "C" fn embulgri_page_read(page: &[u8], out: &mut [u64; 6]) -> u32
     ensures { λ r. ⌜ PageIn (now (page .entry)) r (now (out .entry)) (now (out .exit)) ⌝ }
 {
-    let read = ogg_page::read_page(page);
+    let read = page_reader::read_page(page);
     match read {
         PageRead::Page(h) => {
             let values = page_layout::lacing_of(page).len();
@@ -91,7 +91,7 @@ pub extern "C" fn embulgri_page_write(
 pub extern "C" fn embulgri_packet_read(packet: &[u8], streams: u64, samples: &mut u64) -> u32
     ensures { λ r. ⌜ PacketIn (now (packet .entry)) streams r (now (samples .entry)) (now (samples .exit)) ⌝ }
 {
-    let read = opus_packet::read_packet(packet, streams);
+    let read = packet_reader::read_packet(packet, streams);
     match read {
         PacketRead::Samples(n) => {
             *samples = n as u64;
@@ -110,7 +110,7 @@ pub extern "C" fn embulgri_head_read(
 ) -> u32
     ensures { λ r. ⌜ HeadIn (now (packet .entry)) r (now (fields .entry)) (now (fields .exit)) (now (mapping .entry)) (now (mapping .exit)) ⌝ }
 {
-    let read = opus_head::read_head(packet);
+    let read = head_reader::read_head(packet);
     let verdict = read.verdict;
     let head = read.head;
     match verdict {
@@ -152,7 +152,7 @@ pub extern "C" fn embulgri_head_write(
 pub extern "C" fn embulgri_tags_read(packet: &[u8], count: &mut u64) -> u32
     ensures { λ r. ⌜ TagsIn (now (packet .entry)) r (now (count .entry)) (now (count .exit)) ⌝ }
 {
-    let read = opus_tags::read_tags(packet);
+    let read = tags_reader::read_tags(packet);
     match read {
         TagsRead::Count(n) => {
             *count = n as u64;
@@ -179,14 +179,14 @@ fn store_part(found: PartRead, part: &mut [u64; 2]) -> u32
 pub extern "C" fn embulgri_tags_vendor(packet: &[u8], part: &mut [u64; 2]) -> u32
     ensures { λ r. ⌜ VendorIn (now (packet .entry)) r (now (part .entry)) (now (part .exit)) ⌝ }
 {
-    store_part(opus_tags::find_vendor(packet), part)
+    store_part(tags_reader::find_vendor(packet), part)
 }
 
 #[no_mangle]
 pub extern "C" fn embulgri_tags_comment(packet: &[u8], i: u64, part: &mut [u64; 2]) -> u32
     ensures { λ r. ⌜ CommentIn (now (packet .entry)) i r (now (part .entry)) (now (part .exit)) ⌝ }
 {
-    store_part(opus_tags::find_comment(packet, i as usize), part)
+    store_part(tags_reader::find_comment(packet, i as usize), part)
 }
 
 // Into `gain`: the gain in comment i, in 16 bits.
@@ -197,7 +197,7 @@ pub extern "C" fn embulgri_tags_gain(packet: &[u8], i: u64, gain: &mut u64) -> u
     let read = tags_parts::gain(packet, i as usize);
     match read {
         GainRead::Gain(g) => {
-            *gain = twos_complement::unsigned16(g) as u64;
+            *gain = number_signed::unsigned16(g) as u64;
             0
         }
         GainRead::Refused(why) => refusal::number(why) as u32,

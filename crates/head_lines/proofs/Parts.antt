@@ -8,11 +8,11 @@ use lib.ListN.{length, take, getD, drop, length-append, drop-of-length-le}
 use lib.Seq.{drop-cons}
 use Rattle.octets.specs.Octets.{Bytes, Octets}
 use Rattle.octets.proofs.Parts.{octets-tail}
-use Rattle.putting.specs.Marks.{space}
-use Rattle.putting.specs.Writing.{Put, Laid}
-use Rattle.putting.proofs.Putting.{put-known, front}
-use Rattle.decimal.specs.Decimal.{decimal}
-use Rattle.decimal.proofs.Decimal.{length-most}
+use Rattle.text_put.specs.Marks.{space}
+use Rattle.text_put.specs.Writing.{Put, Laid}
+use Rattle.text_put.proofs.Putting.{put-known, front}
+use Rattle.text_decimal.specs.Decimal.{decimal}
+use Rattle.text_decimal.proofs.Decimal.{length-most}
 use Rattle.head_lines.specs.Lines.{spaced}
 
 -- a line whose end was made in a buffer z

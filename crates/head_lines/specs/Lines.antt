@@ -3,9 +3,9 @@ use Prim.Native.Nat.{ℕ}
 use mathlib.Core.List.{[], _∷_, _++_}
 use lib.IntN.{ℤ}
 use Rattle.octets.specs.Octets.{Bytes}
-use Rattle.putting.specs.Marks.{space, lineFeed}
-use Rattle.decimal.specs.Decimal.{decimal}
-use Rattle.number_text.specs.Numbers.{signedDecimal, decibelsEnd}
+use Rattle.text_put.specs.Marks.{space, lineFeed}
+use Rattle.text_decimal.specs.Decimal.{decimal}
+use Rattle.text_gain.specs.Numbers.{signedDecimal, decibelsEnd}
 
 -- "gain "
 abbrev pub gainIs : Bytes

@@ -3,11 +3,11 @@
 ghost use mathlib.Core.List.{_++_};
 ghost use Prim.Native.Nat.{_+_, _≤_};
 ghost use lib.ListN.{length};
-ghost use Rattle.putting.specs.Marks.{space, lineFeed};
-ghost use Rattle.putting.specs.Writing.{Put, Laid};
-ghost use Rattle.decimal.specs.Decimal.{decimal};
+ghost use Rattle.text_put.specs.Marks.{space, lineFeed};
+ghost use Rattle.text_put.specs.Writing.{Put, Laid};
+ghost use Rattle.text_decimal.specs.Decimal.{decimal};
 ghost use Rattle.head_fields.specs.Right.{usedPlaces};
-ghost use Rattle.number_text.specs.Numbers.{signedDecimal, decibelsEnd};
+ghost use Rattle.text_gain.specs.Numbers.{signedDecimal, decibelsEnd};
 ghost use Rattle.head_lines.specs.Lines.{numberLine, gainLine, spaced, mappingLine};
 use head_fields::Head;
 
@@ -16,16 +16,16 @@ pub fn put_number(out: &mut [u8], at: usize, name: &[u8], x: u64) -> usize
     ensures { λ r. ⌜ Put (now (out .entry)) at (numberLine (now (name .entry)) x) r (now (out .exit)) ⌝ }
 {
     let mut end = [0u8; 21];
-    let n = decimal::put_ended(&mut end, 0, x, b'\n');
-    putting::put_both(out, at, name, octets::part_of(&end, 0, n))
+    let n = text_decimal::put_ended(&mut end, 0, x, b'\n');
+    text_put::put_both(out, at, name, octets::part_of(&end, 0, n))
 }
 
 fn lay_gain(out: &mut [u8], g: i16) -> usize
     requires { ⌜ 56 ≤ length (now out) ⌝ }
     ensures { λ r. ⌜ Laid (now (out .entry)) 0 (signedDecimal g ++ decibelsEnd g) r (now (out .exit)) ⌝ }
 {
-    let next = number_text::put_signed(out, 0, g);
-    number_text::put_decibels(out, next, g)
+    let next = text_gain::put_signed(out, 0, g);
+    text_gain::put_decibels(out, next, g)
 }
 
 // A gain, and the same in decibels.
@@ -34,7 +34,7 @@ pub fn put_gain(out: &mut [u8], at: usize, g: i16) -> usize
 {
     let mut end = [0u8; 56];
     let n = lay_gain(&mut end, g);
-    putting::put_both(out, at, b"gain ", octets::part_of(&end, 0, n))
+    text_put::put_both(out, at, b"gain ", octets::part_of(&end, 0, n))
 }
 
 // A number behind a space.
@@ -42,8 +42,8 @@ fn lay_index(out: &mut [u8], at: usize, i: u8) -> usize
     requires { ⌜ at + length (space ++ decimal i) ≤ length (now out) ⌝ }
     ensures { λ r. ⌜ Laid (now (out .entry)) at (space ++ decimal i) r (now (out .exit)) ⌝ }
 {
-    let next = putting::put_bytes(out, at, b" ");
-    decimal::put_decimal(out, next, i as u64)
+    let next = text_put::put_bytes(out, at, b" ");
+    text_decimal::put_decimal(out, next, i as u64)
 }
 
 // Numbers, each behind a space.
@@ -65,7 +65,7 @@ fn lay_mapping(out: &mut [u8], s: &[u8]) -> usize
     ensures { λ r. ⌜ Laid (now (out .entry)) 0 (spaced (now (s .entry)) ++ lineFeed) r (now (out .exit)) × (length (spaced (now (s .entry))) ≤ 1020) ⌝ }
 {
     let last = lay_spaced(out, s);
-    putting::put_bytes(out, last, b"\n")
+    text_put::put_bytes(out, last, b"\n")
 }
 
 // The places of the channel mapping that are used.
@@ -78,5 +78,5 @@ pub fn put_mapping(out: &mut [u8], at: usize, head: Head) -> usize
         &mut end,
         octets::part_of(&mapping, 0, octets::wide(head.channels)),
     );
-    putting::put_both(out, at, b"mapping", octets::part_of(&end, 0, n))
+    text_put::put_both(out, at, b"mapping", octets::part_of(&end, 0, n))
 }

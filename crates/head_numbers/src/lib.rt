@@ -13,7 +13,7 @@ pub fn numbers_of(h: Head) -> [u64; 8]
         h.channels as u64,
         h.preskip as u64,
         h.rate as u64,
-        twos_complement::unsigned16(gain) as u64,
+        number_signed::unsigned16(gain) as u64,
         h.family as u64,
         h.streams as u64,
         h.coupled as u64,
@@ -39,7 +39,7 @@ pub fn numbers_fit(fields: &[u64; 8]) -> bool
 pub fn head_of(fields: &[u64; 8], mapping: &[u8; 255]) -> Head
     ensures { λ r. ⌜ r ≡ headFrom (now (fields .entry)) (now (mapping .entry)) ⌝ }
 {
-    let gain = twos_complement::signed16((fields[4] % 65536) as u16);
+    let gain = number_signed::signed16((fields[4] % 65536) as u16);
     let places = *mapping;
     Head {
         version: (fields[0] % 256) as u8,

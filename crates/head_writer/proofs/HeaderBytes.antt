@@ -17,7 +17,7 @@ use Rattle.octets.specs.Numbers.{octets, number}
 use Rattle.octets.specs.Pick.{pick}
 use Rattle.octets.proofs.Numbers.{value-octets}
 use Rattle.head_fields.specs.declared.Head.{Head}
-use Rattle.opus_head.specs.Fields.{signature, streamsOf, coupledOf, indicesOf, places, headOf}
+use Rattle.head_reader.specs.Fields.{signature, streamsOf, coupledOf, indicesOf, places, headOf}
 use Rattle.head_fields.specs.Right.{plainIndices, usedPlaces}
 use Rattle.head_writer.specs.Writing.{startOf, headBytes, headSize}
 use Rattle.head_writer.specs.Statements.{Fit}

@@ -22,11 +22,11 @@ use Rattle.refusal.proofs.Checks.{no-refusal, passed}
 use Rattle.refusal.specs.Checks.{firstOf}
 use Rattle.refusal.specs.Told.{gives}
 use Rattle.head_fields.specs.declared.Head.{Head}
-use Rattle.opus_head.specs.Fields.{signature, streamsOf, coupledOf, indicesOf, places, headOf}
+use Rattle.head_reader.specs.Fields.{signature, streamsOf, coupledOf, indicesOf, places, headOf}
 use Rattle.head_fields.specs.Right.{plainIndices, hasTable, unusedPlaces, usedPlaces, allZero, rightPlain, rightMapping, rightHead}
-use Rattle.opus_head.specs.Reading.{isHead, readHead}
-use Rattle.opus_head.proofs.Mapping.{used-places, places-used, channels-most, plain-length}
-use Rattle.opus_head.proofs.ReadRight.{Read, allowed, read, indexed, read-is-right}
+use Rattle.head_reader.specs.Reading.{isHead, readHead}
+use Rattle.head_reader.proofs.Mapping.{used-places, places-used, channels-most, plain-length}
+use Rattle.head_reader.proofs.ReadRight.{Read, allowed, read, indexed, read-is-right}
 use Rattle.head_writer.specs.Writing.{startOf, headBytes, headSize, writeChecks, writeTold, writeOut}
 use Rattle.head_writer.specs.Statements.{Fit, ReadsBack, WritesBack}
 use Rattle.head_writer.proofs.Answers.{writable}

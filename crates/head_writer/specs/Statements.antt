@@ -7,7 +7,7 @@ use mir.Val.{SFits}
 use Rattle.octets.specs.Octets.{Bytes, Octets, copied}
 use Rattle.refusal.specs.Told.{gives}
 use Rattle.head_fields.specs.declared.Head.{Head}
-use Rattle.opus_head.specs.Reading.{readHead}
+use Rattle.head_reader.specs.Reading.{readHead}
 use Rattle.head_writer.specs.Writing.{headSize, writeTold, writeOut}
 
 -- numbers that the fields' widths hold, and the 255 places of the mapping

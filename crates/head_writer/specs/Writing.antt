@@ -19,7 +19,7 @@ use Rattle.refusal.specs.Numbers.{numberOf}
 use Rattle.head_fields.specs.declared.Head.{Head}
 use Rattle.head_writer.specs.declared.HeadWritten.{HeadWritten}
 use Rattle.head_writer.specs.declared.HeadWritten.the-variants.{Bytes as Written, Refused}
-use Rattle.opus_head.specs.Fields.{signature}
+use Rattle.head_reader.specs.Fields.{signature}
 use Rattle.head_fields.specs.Right.{hasTable, tableLength, usedPlaces, rightHead}
 
 -- the 19 bytes before the table

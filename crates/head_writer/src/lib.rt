@@ -19,7 +19,7 @@ fn start_of(h: Head) -> [u8; 19]
     let gain = h.gain;
     let p = number_writer::octets64(h.preskip as u64);
     let r = number_writer::octets64(h.rate as u64);
-    let g = number_writer::octets64(twos_complement::unsigned16(gain) as u64);
+    let g = number_writer::octets64(number_signed::unsigned16(gain) as u64);
     [
         0x4f,
         0x70,

@@ -1,8 +1,8 @@
 // The listing of an Ogg Opus recording: standard input to one line a packet, `end dur kept`, and a last line, the total or the
 // refusal that ended it. Pages are fed where they lie in the buffer. Places are cut to their buffers' lengths, so that no
 // function has to know what another left.
-use page_run::Stop;
-use page_run::Sums;
+use feed_pages::Stop;
+use feed_pages::Sums;
 use reader::Reader;
 use refusal::Refusal;
 
@@ -115,7 +115,7 @@ fn feed_more(
 ) -> Listing {
     let to = octets::least(w.to, buffer.len());
     let from = octets::least(w.from, to);
-    let fed = page_run::feed_pages(w.reader, &buffer[from..to], carry, ends, sizes, kept);
+    let fed = feed_pages::feed_pages(w.reader, &buffer[from..to], carry, ends, sizes, kept);
     let p = fed.progress;
     let stop = fed.stop;
     let reader = p.reader;
@@ -135,7 +135,7 @@ fn feed_more(
 
 // The lines of packets, as many as the output has room for; where it has no more, it is written and emptied.
 fn put_lines(w: Listing, ends: &[u64], sizes: &[u64], kept: &[u64], out: &mut [u8]) -> Step {
-    let put = entry_lines::put_entries(
+    let put = list_entries::put_entries(
         out,
         w.filled,
         part(ends, w.listed, w.packets),
@@ -168,7 +168,7 @@ fn put_lines(w: Listing, ends: &[u64], sizes: &[u64], kept: &[u64], out: &mut [u
 
 fn end_with_refusal(w: Listing, why: Refusal, out: &mut [u8]) {
     if write_out(out, w.filled) {
-        let n = lines::put_refused(out, 0, refusal::number(why) as u64, w.pages);
+        let n = list_lines::put_refused(out, 0, refusal::number(why) as u64, w.pages);
         write_out(out, n);
     }
 }
@@ -176,7 +176,7 @@ fn end_with_refusal(w: Listing, why: Refusal, out: &mut [u8]) {
 fn end_with_total(w: Listing, out: &mut [u8]) {
     if write_out(out, w.filled) {
         let s = w.sums;
-        let n = lines::put_total(out, 0, s.kept, s.skipped, s.trimmed, s.hole);
+        let n = list_lines::put_total(out, 0, s.kept, s.skipped, s.trimmed, s.hole);
         write_out(out, n);
     }
 }
@@ -190,7 +190,7 @@ fn read_on(w: Listing, buffer: &mut [u8], out: &mut [u8]) -> Step {
             if n == 0 {
                 end_with_total(w, out);
             } else {
-                end_with_refusal(w, cut_rest::refusal_of_rest(w.reader), out);
+                end_with_refusal(w, feed_partial::refusal_of_rest(w.reader), out);
             }
             Step::Ends
         }
@@ -252,7 +252,7 @@ fn main() {
     let mut sizes = [0u64; 1024];
     let mut kept = [0u64; 1024];
     let mut out = [0u8; 131072];
-    let filled = lines::put_first(&mut out, 0);
+    let filled = list_lines::put_first(&mut out, 0);
     let start = Listing {
         reader: reader::start(),
         from: 0,

@@ -9,7 +9,7 @@ use lib.ListN.{length, take, drop, length-drop, take-append-drop}
 use lib.Seq.{length-take-le, take-all}
 use Rattle.octets.specs.Pick.{pick}
 use Rattle.octets.specs.Octets.{Bytes, total}
-use Rattle.lacing.specs.Lacing.{Cut, cutFrom, endedFrom, unfinishedFrom}
+use Rattle.page_lacing.specs.Lacing.{Cut, cutFrom, endedFrom, unfinishedFrom}
 use Rattle.page_pieces.specs.Statements.{joined, PiecesCover}
 
 -- the pieces k have the lengths e and u, and cover b

@@ -7,7 +7,7 @@ use native.Mathlib.Omega.{arith}
 use borrow.Author.Tests.{lt-ltb, le-ltb}
 use lib.ListN.{length, getD, take, drop, set, replicate, length-set, length-replicate, take-append-drop, drop-of-length-le}
 use lib.Seq.{drop-cons, take-suc-set, drop-set-lt, drop-drop, length-take-le}
-use Rattle.lacing.specs.Lacing.{endedFrom, unfinishedFrom}
+use Rattle.page_lacing.specs.Lacing.{endedFrom, unfinishedFrom}
 
 -- after i values of l: the first n of `lengths` are those of the packets that ended, and `bytes` belong to the next
 pub record Done (l lengths : List ℕ) (n bytes i : ℕ) : Type 0 where

@@ -4,7 +4,7 @@ use mathlib.Core.Path.{_≡_}
 use mathlib.Core.List.{_++_}
 use lib.ListN.{length, take, replicate}
 use Rattle.octets.specs.Octets.{Bytes}
-use Rattle.lacing.specs.Lacing.{ended, unfinished}
+use Rattle.page_lacing.specs.Lacing.{ended, unfinished}
 use Rattle.page_pieces.specs.declared.Pieces.{Pieces}
 
 -- the answer for a lacing list: places past the number of packets are zero. A page has at most 255 values; of a longer

@@ -3,7 +3,7 @@ use mathlib.Core.Path.{_≡_}
 use mathlib.Core.List.{List, [], _∷_, _++_, map}
 use lib.ListN.{length}
 use Rattle.octets.specs.Octets.{Bytes, total}
-use Rattle.lacing.specs.Lacing.{ended, unfinished, cut}
+use Rattle.page_lacing.specs.Lacing.{ended, unfinished, cut}
 
 -- the pieces one after the other
 unfoldable pub joined : List Bytes → Bytes

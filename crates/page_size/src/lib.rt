@@ -33,7 +33,7 @@ fn has_capture(s: &[u8]) -> bool
 fn size_of(page: &[u8]) -> usize
     ensures { λ r. ⌜ (r ≡ sizeOf (now (page .entry))) × (r ≤ 65307) ⌝ }
 {
-    27 + octets::wide(octets::byte_at(page, 26)) + lacing::sum_of(page_layout::lacing_of(page))
+    27 + octets::wide(octets::byte_at(page, 26)) + page_lacing::sum_of(page_layout::lacing_of(page))
 }
 
 // Where the page would end that s, the bytes from place `at` of a buffer on, begins with.

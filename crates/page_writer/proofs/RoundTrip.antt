@@ -14,16 +14,16 @@ use Rattle.octets.proofs.Copying.{copied-fits}
 use Rattle.refusal.proofs.Checks.{no-refusal, passed}
 use Rattle.refusal.specs.Checks.{firstOf}
 use Rattle.refusal.specs.Told.{gives}
-use Rattle.ogg_crc.specs.Crc.{pageCrc}
-use Rattle.ogg_crc.proofs.Page.{page-crc-fits}
+use Rattle.page_crc.specs.Crc.{pageCrc}
+use Rattle.page_crc.proofs.Page.{page-crc-fits}
 use Rattle.page_layout.specs.declared.PageHeader.{PageHeader}
 use Rattle.page_layout.specs.Page.{headerOf, checksumOf, countOf, lacingOf, bodyOf}
 use Rattle.page_size.specs.Size.{sizeOf, isOnePage}
-use Rattle.ogg_page.specs.Reading.{readChecks, readPage}
+use Rattle.page_reader.specs.Reading.{readChecks, readPage}
 use Rattle.page_writer.specs.Writing.{pageBytes, pageSize, writeChecks, writeTold, writeOut}
 use Rattle.page_writer.specs.Statements.{Fit, ReadsAs, ReadsBack, WritesBack}
 use Rattle.page_size.proofs.Whole.{capture, captured, version-whole, whole, lacing-length, body-length}
-use Rattle.ogg_page.proofs.Reading.{right-page}
+use Rattle.page_reader.proofs.Reading.{right-page}
 use Rattle.page_writer.proofs.Writing.{writable}
 use Rattle.page_writer.proofs.Written.{page, page-length, page-capture, page-version, page-count, page-lacing, page-body, page-header, page-checksum, page-crc, sealed-page}
 

@@ -13,7 +13,7 @@ use Rattle.octets.proofs.Copying.{copied-next, length-copied}
 use Rattle.refusal.specs.declared.Refusal.{Refusal}
 use Rattle.refusal.specs.declared.Refusal.the-variants.{ShortOutput, UnfitFields}
 use Rattle.refusal.specs.Checks.{firstOf}
-use Rattle.ogg_crc.specs.Crc.{pageCrc}
+use Rattle.page_crc.specs.Crc.{pageCrc}
 use Rattle.page_layout.specs.declared.PageHeader.{PageHeader}
 use Rattle.page_writer.specs.declared.PageWritten.the-variants.{Bytes as Written, Refused}
 use Rattle.page_writer.specs.Writing.{sealed, startOf, pageBytes, pageSize, writeChecks, writeTold, writeOut, Wrote}

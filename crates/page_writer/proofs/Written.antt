@@ -10,8 +10,8 @@ use Rattle.octets.specs.Octets.{Bytes}
 use Rattle.octets.specs.Numbers.{octets, number}
 use Rattle.octets.proofs.Numbers.{length-octets, value-octets}
 use Rattle.octets.proofs.Copying.{copied-fits}
-use Rattle.ogg_crc.specs.Crc.{pageCrc}
-use Rattle.ogg_crc.proofs.Page.{page-crc-same}
+use Rattle.page_crc.specs.Crc.{pageCrc}
+use Rattle.page_crc.proofs.Page.{page-crc-same}
 use Rattle.page_layout.specs.declared.PageHeader.{PageHeader}
 use Rattle.page_layout.specs.Page.{hasCapture, versionOf, headerOf, checksumOf, countOf, lacingOf, bodyOf}
 use Rattle.page_writer.specs.Writing.{startOf, sealed, pageBytes, pageSize}

@@ -4,10 +4,10 @@ use mathlib.Core.Path.{_≡_}
 use lib.ListN.{length, take}
 use Rattle.octets.specs.Octets.{Bytes, Octets, copied}
 use Rattle.refusal.specs.Told.{gives}
-use Rattle.ogg_crc.specs.Crc.{pageCrc}
+use Rattle.page_crc.specs.Crc.{pageCrc}
 use Rattle.page_layout.specs.declared.PageHeader.{PageHeader}
 use Rattle.page_layout.specs.Page.{lacingOf, bodyOf}
-use Rattle.ogg_page.specs.Reading.{readPage}
+use Rattle.page_reader.specs.Reading.{readPage}
 use Rattle.page_writer.specs.Writing.{pageSize, writeTold, writeOut}
 
 -- numbers that the fields' widths hold

@@ -16,7 +16,7 @@ pub enum PageWritten {
 pub fn renew_checksum(page: &mut [u8])
     ensures { λ _. ⌜ now (page .exit) ≡ sealed (now (page .entry)) ⌝ }
 {
-    let sum = ogg_crc::page_checksum(page);
+    let sum = page_crc::page_checksum(page);
     number_writer::put32(page, 22, sum);
 }
 
@@ -81,7 +81,7 @@ pub fn write_page(h: PageHeader, lacing: &[u8], body: &[u8], out: &mut [u8]) -> 
     if lacing.len() > 255 {
         return PageWritten::Refused(Refusal::UnfitFields);
     }
-    if lacing::sum_of(lacing) != body.len() {
+    if page_lacing::sum_of(lacing) != body.len() {
         return PageWritten::Refused(Refusal::UnfitFields);
     }
     if h.flags > 7 {

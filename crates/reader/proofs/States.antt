@@ -10,11 +10,11 @@ use Rattle.stream.specs.declared.Core.{Core}
 use Rattle.stream.specs.declared.Tally.{Tally}
 use Rattle.stream.specs.declared.Counts.{Counts}
 use Rattle.stream.specs.Feed.{Reader as Known, readerOf, Taken, Fed as Outcome, FedIs}
-use Rattle.core_start.specs.declared.CoreOpened.the-variants.{At as Opened-at, Refused as Unopened}
-use Rattle.core_start.specs.Answers.{toldOpened}
-use Rattle.core_feed.specs.declared.CoreFed.the-variants.{Accepted, Refused}
-use Rattle.core_feed.specs.Answers.{toldCore}
-use Rattle.state_numbers.specs.Numbers.{StandFor}
+use Rattle.feed_start.specs.declared.CoreOpened.the-variants.{At as Opened-at, Refused as Unopened}
+use Rattle.feed_start.specs.Answers.{toldOpened}
+use Rattle.feed_page.specs.declared.CoreFed.the-variants.{Accepted, Refused}
+use Rattle.feed_page.specs.Answers.{toldCore}
+use Rattle.feed_numbers.specs.Numbers.{StandFor}
 use Rattle.reader.specs.declared.StateOpened.the-variants.{Done, Refused as NotOpened}
 use Rattle.reader.specs.declared.StateFed.the-variants.{Accepted as Taken-in, Refused as Turned-away}
 use Rattle.reader.specs.Numbers.{StateOpenedIs, StateFedIs}

@@ -7,7 +7,7 @@ use Rattle.refusal.specs.Numbers.{numberOf}
 use Rattle.refusal.specs.Told.{Told, gives, refuses, retold, numberIn}
 use Rattle.stream.specs.declared.Counts.{Counts}
 use Rattle.stream.specs.Feed.{Reader, Taken, Fed}
-use Rattle.state_numbers.specs.Numbers.{numbersOf, readerFrom}
+use Rattle.feed_numbers.specs.Numbers.{numbersOf, readerFrom}
 use Rattle.reader.specs.declared.StateOpened.{StateOpened}
 use Rattle.reader.specs.declared.StateOpened.the-variants.{Done, Refused as NotOpened}
 use Rattle.reader.specs.declared.StateFed.{StateFed}

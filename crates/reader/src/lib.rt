@@ -4,18 +4,18 @@ ghost use mathlib.Core.Path.{_≡_};
 ghost use mathlib.Core.List.{List};
 ghost use Rattle.octets.specs.Octets.{Bytes};
 ghost use Rattle.stream.specs.State.{isEnded};
-ghost use Rattle.ogg_crc.specs.Crc.{pageCrc};
-ghost use Rattle.crc_tables.specs.Table.{entryIn};
-ghost use Rattle.ogg_crc.specs.Sliced.{pageSliced};
+ghost use Rattle.page_crc.specs.Crc.{pageCrc};
+ghost use Rattle.page_crc_tables.specs.Table.{entryIn};
+ghost use Rattle.page_crc.specs.Sliced.{pageSliced};
 ghost use Rattle.stream.specs.Readings.{readings};
 ghost use Rattle.stream.specs.Feed.{start as started, openPartWay, feed as feedBy, Fed as Outcome, FedIs, lentOf};
 ghost use Rattle.stream.specs.Feedings.{heldOf};
-ghost use Rattle.core_feed.specs.Answers.{toldCore};
-ghost use Rattle.state_numbers.specs.Numbers.{StandFor, readerFrom};
+ghost use Rattle.feed_page.specs.Answers.{toldCore};
+ghost use Rattle.feed_numbers.specs.Numbers.{StandFor, readerFrom};
 ghost use Rattle.reader.specs.Answers.{knownAs, toldOpened, toldFed};
 ghost use Rattle.reader.specs.Numbers.{StateOpenedIs, StateFedIs};
-use core_feed::CoreFed;
-use core_start::CoreOpened;
+use feed_page::CoreFed;
+use feed_start::CoreOpened;
 use granule::Position;
 use head_fields::Head;
 use refusal::Refusal;
@@ -45,7 +45,7 @@ pub fn start() -> Reader
     ensures { λ r. ⌜ knownAs r ≡ started ⌝ }
 {
     Reader {
-        core: core_start::start_core(),
+        core: feed_start::start_core(),
         tally: Tally { skip: 0 },
     }
 }
@@ -54,7 +54,7 @@ pub fn start() -> Reader
 pub fn open(head: Head) -> Opened
     ensures { λ r. ⌜ toldOpened r ≡ openPartWay head ⌝ }
 {
-    match core_start::open_core(head) {
+    match feed_start::open_core(head) {
         CoreOpened::At(core, tally) => Opened::At(Reader { core, tally }),
         CoreOpened::Refused(why) => Opened::Refused(why),
     }
@@ -73,7 +73,7 @@ pub fn is_ended(reader: Reader) -> bool
 {
     let core = reader.core;
     let phase = core.phase;
-    phases::is_ended(phase)
+    feed_phase::is_ended(phase)
 }
 
 // The last granule position of an audio page, where there is one yet.
@@ -90,7 +90,7 @@ pub fn held(reader: Reader) -> usize
 {
     let core = reader.core;
     let pending = core.pending;
-    lent_memory::held_in(pending)
+    feed_memory::held_in(pending)
 }
 
 // ---- feeding
@@ -117,10 +117,10 @@ pub fn feed(
 ) -> Fed
     ensures { λ r. ⌜ FedIs (feedBy (readings pageCrc) (knownAs reader) (lentOf (now (carry .entry)) (now (ends .entry)) (now (sizes .entry)) (now (kept .entry))) (now (page .entry))) (toldFed r) (now (carry .exit)) (now (ends .exit)) (now (sizes .exit)) (now (kept .exit)) ⌝ }
 {
-    sealed(core_feed::feed_core(reader.core, reader.tally, page, carry, ends, sizes, kept))
+    sealed(feed_page::feed_core(reader.core, reader.tally, page, carry, ends, sizes, kept))
 }
 
-// The same as `feed`, by lent tables: those of `crc_tables::table::tables` give the checksum, and others what they give. Whoever
+// The same as `feed`, by lent tables: those of `page_crc_tables::table::tables` give the checksum, and others what they give. Whoever
 // feeds many small pages makes the tables once.
 pub fn feed_with(
     tables: &[u32; 4096],
@@ -133,7 +133,7 @@ pub fn feed_with(
 ) -> Fed
     ensures { λ r. ⌜ FedIs (feedBy (readings (pageSliced (entryIn (now (tables .entry))))) (knownAs reader) (lentOf (now (carry .entry)) (now (ends .entry)) (now (sizes .entry)) (now (kept .entry))) (now (page .entry))) (toldFed r) (now (carry .exit)) (now (ends .exit)) (now (sizes .exit)) (now (kept .exit)) ⌝ }
 {
-    sealed(core_feed::feed_core_with(
+    sealed(feed_page::feed_core_with(
         tables,
         reader.core,
         reader.tally,
@@ -161,16 +161,16 @@ pub enum StateFed {
 pub fn start_state() -> [u64; 16]
     ensures { λ r. ⌜ StandFor r started ⌝ }
 {
-    state_numbers::numbers_of(core_start::start_core(), Tally { skip: 0 })
+    feed_numbers::numbers_of(feed_start::start_core(), Tally { skip: 0 })
 }
 
 // The same as `open`, into sixteen numbers. A refusal changes none.
 pub fn open_state(head: Head, state: &mut [u64; 16]) -> StateOpened
     ensures { λ r. ⌜ StateOpenedIs (openPartWay head) r (now (state .entry)) (now (state .exit)) ⌝ }
 {
-    match core_start::open_core(head) {
+    match feed_start::open_core(head) {
         CoreOpened::At(core, tally) => {
-            *state = state_numbers::numbers_of(core, tally);
+            *state = feed_numbers::numbers_of(core, tally);
             StateOpened::Done
         }
         CoreOpened::Refused(why) => StateOpened::Refused(why),
@@ -183,7 +183,7 @@ fn keep(fed: CoreFed, state: &mut [u64; 16]) -> StateFed
 {
     match fed {
         CoreFed::Accepted(core, tally, counts) => {
-            *state = state_numbers::numbers_of(core, tally);
+            *state = feed_numbers::numbers_of(core, tally);
             StateFed::Accepted(counts)
         }
         CoreFed::Refused(why) => StateFed::Refused(why),
@@ -201,10 +201,10 @@ pub fn feed_state(
 ) -> StateFed
     ensures { λ r. ⌜ StateFedIs (feedBy (readings pageCrc) (readerFrom (now (state .entry))) (lentOf (now (carry .entry)) (now (ends .entry)) (now (sizes .entry)) (now (kept .entry))) (now (page .entry))) r (now (state .entry)) (now (state .exit)) (now (carry .exit)) (now (ends .exit)) (now (sizes .exit)) (now (kept .exit)) ⌝ }
 {
-    let core = state_numbers::core_from(state);
-    let tally = state_numbers::tally_from(state);
+    let core = feed_numbers::core_from(state);
+    let tally = feed_numbers::tally_from(state);
     keep(
-        core_feed::feed_core(core, tally, page, carry, ends, sizes, kept),
+        feed_page::feed_core(core, tally, page, carry, ends, sizes, kept),
         state,
     )
 }

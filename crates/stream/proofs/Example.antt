@@ -15,26 +15,26 @@ use Rattle.refusal.specs.declared.Refusal.the-variants.{NotOnePage, WrongChecks
 use Rattle.refusal.specs.Checks.{Check, _when_, firstOf}
 use Rattle.refusal.specs.Told.{gives}
 use Rattle.refusal.proofs.Checks.{no-refusal, passed}
-use Rattle.ogg_crc.specs.Crc.{pageCrc}
+use Rattle.page_crc.specs.Crc.{pageCrc}
 use Rattle.page_layout.specs.declared.PageHeader.{PageHeader}
 use Rattle.page_layout.specs.Page.{hasCapture, headerOf, checksumOf}
 use Rattle.page_size.specs.Size.{isOnePage}
-use Rattle.lacing.specs.Lacing.{endedFrom, unfinishedFrom, cutFrom}
-use Rattle.ogg_page.specs.Reading.{readChecks, readPage}
+use Rattle.page_lacing.specs.Lacing.{endedFrom, unfinishedFrom, cutFrom}
+use Rattle.page_reader.specs.Reading.{readChecks, readPage}
 use Rattle.page_writer.specs.Writing.{pageSize, writeTold}
 use Rattle.page_writer.specs.Statements.{Fit, ReadsAs}
 use Rattle.page_writer.proofs.RoundTrip.{reads-back}
-use Rattle.opus_head.specs.Fields.{streamsOf, coupledOf, indicesOf, places, headOf as fieldsOf}
+use Rattle.head_reader.specs.Fields.{streamsOf, coupledOf, indicesOf, places, headOf as fieldsOf}
 use Rattle.head_fields.specs.Right.{allowedChannels, rightIndices, rightStreams, rightMapping}
-use Rattle.opus_head.specs.Reading.{isHead}
+use Rattle.head_reader.specs.Reading.{isHead}
 use Rattle.utf8.specs.Characters.{utf8From, utf8}
 use Rattle.tags_layout.specs.Layout.{fitsAt, allFit, textsFrom, placeAfter, isLaidOut, tagsOf}
 use Rattle.tags_rules.specs.Right.{allRight, occurrences, rightComments}
-use Rattle.opus_tags.specs.Right.{rightTags, isTags}
-use Rattle.opus_toc.specs.Toc.{configSamples, frameSamples}
-use Rattle.opus_frames.specs.Frames.{coded, codedTimes, paddingFrom}
-use Rattle.opus_frames.specs.Packet.{countedShape, shapeOf, parse}
-use Rattle.opus_packet.specs.Streams.{lengthsOf as packetLengths, allAre}
+use Rattle.tags_reader.specs.Right.{rightTags, isTags}
+use Rattle.packet_toc.specs.Toc.{configSamples, frameSamples}
+use Rattle.packet_frames.specs.Frames.{coded, codedTimes, paddingFrom}
+use Rattle.packet_frames.specs.Packet.{countedShape, shapeOf, parse}
+use Rattle.packet_reader.specs.Streams.{lengthsOf as packetLengths, allAre}
 use Rattle.granule.specs.declared.Position.{Position}
 use Rattle.granule.specs.declared.Position.the-variants.{Unset, Joined, At}
 use Rattle.granule.specs.Judging.{from}

@@ -13,7 +13,7 @@ use Rattle.octets.specs.Octets.{Bytes, Octets}
 use Rattle.refusal.specs.declared.Refusal.{Refusal}
 use Rattle.refusal.specs.Told.{Told, gives}
 use Rattle.page_layout.specs.Page.{lacingOf, countOf}
-use Rattle.lacing.specs.Lacing.{cutFrom}
+use Rattle.page_lacing.specs.Lacing.{cutFrom}
 use Rattle.stream.specs.declared.Counts.{Counts}
 use Rattle.stream.specs.Page.{pageOf, wholeFrom, whole, rest}
 use Rattle.stream.specs.Readings.{Readings}

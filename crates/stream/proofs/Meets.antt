@@ -12,14 +12,14 @@ use Rattle.octets.specs.Octets.{Bytes, Octets, total, begins}
 use Rattle.octets.specs.Numbers.{value, octets, number}
 use Rattle.refusal.specs.declared.Refusal.{Refusal}
 use Rattle.refusal.specs.Told.{gives}
-use Rattle.ogg_crc.specs.Crc.{pageCrc}
+use Rattle.page_crc.specs.Crc.{pageCrc}
 use Rattle.page_writer.specs.Writing.{startOf}
 use Rattle.head_fields.specs.declared.Head.{Head}
-use Rattle.opus_head.specs.Fields.{streamsOf, headOf as fieldsOf}
-use Rattle.opus_toc.specs.Toc.{configSamples, frameSamples}
-use Rattle.opus_frames.specs.Frames.{coded, codedTimes, paddingFrom}
-use Rattle.opus_frames.specs.Packet.{countedShape, shapeOf, parse}
-use Rattle.opus_packet.specs.Streams.{lengthsOf as packetLengths}
+use Rattle.head_reader.specs.Fields.{streamsOf, headOf as fieldsOf}
+use Rattle.packet_toc.specs.Toc.{configSamples, frameSamples}
+use Rattle.packet_frames.specs.Frames.{coded, codedTimes, paddingFrom}
+use Rattle.packet_frames.specs.Packet.{countedShape, shapeOf, parse}
+use Rattle.packet_reader.specs.Streams.{lengthsOf as packetLengths}
 use Rattle.granule.specs.Samples.{tally}
 use Rattle.granule.specs.Judging.{from}
 use Rattle.stream.specs.Page.{Page, pageOf, last, ends, completes}

@@ -11,7 +11,7 @@ use lib.Dec.{ltb, eqb}
 use lib.ListN.{length, take, drop, length-take}
 use Rattle.octets.specs.Pick.{pick}
 use Rattle.octets.specs.Octets.{Bytes}
-use Rattle.lacing.specs.Lacing.{endedFrom, unfinishedFrom, Cut, cutFrom}
+use Rattle.page_lacing.specs.Lacing.{endedFrom, unfinishedFrom, Cut, cutFrom}
 use Rattle.stream.specs.Page.{Page, ends, completes, wholeFrom, restFrom, whole, rest}
 use Rattle.stream.specs.State.{Carried, nothing, dropped, held, State}
 use Rattle.stream.specs.Packets.{join, seen, packetMax, tooLong, anyLong, longFrom, afterFirst, isLong}

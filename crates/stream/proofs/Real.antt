@@ -15,15 +15,15 @@ use Rattle.refusal.specs.declared.Refusal.the-variants.{IllegalPacket, MixedLen
 use Rattle.refusal.specs.Checks.{firstOf}
 use Rattle.refusal.specs.Told.{Told, gives, refuses, decided}
 use Rattle.page_layout.specs.Page.{bodyOf, countOf}
-use Rattle.lacing.specs.Lacing.{cutFrom}
-use Rattle.ogg_page.specs.Reading.{readPage}
+use Rattle.page_lacing.specs.Lacing.{cutFrom}
+use Rattle.page_reader.specs.Reading.{readPage}
 use Rattle.head_fields.specs.declared.Head.{Head}
-use Rattle.opus_head.specs.Fields.{headOf as fieldsOf}
+use Rattle.head_reader.specs.Fields.{headOf as fieldsOf}
 use Rattle.head_fields.specs.Right.{rightHead, rightMapping}
-use Rattle.opus_head.specs.Reading.{isHead, readHead}
-use Rattle.opus_head.proofs.ReadRight.{read-is-right}
-use Rattle.opus_tags.specs.Reading.{readTags}
-use Rattle.opus_packet.specs.Streams.{lengthsOf, isIllegal, isMixed, firstLength, readPacket}
+use Rattle.head_reader.specs.Reading.{isHead, readHead}
+use Rattle.head_reader.proofs.ReadRight.{read-is-right}
+use Rattle.tags_reader.specs.Reading.{readTags}
+use Rattle.packet_reader.specs.Streams.{lengthsOf, isIllegal, isMixed, firstLength, readPacket}
 use Rattle.stream.specs.Page.{Page, pageOf, wholeFrom, whole, rest}
 use Rattle.stream.specs.Readings.{Readings, readings}
 use Rattle.stream.specs.State.{nothing, State, expecting}

@@ -11,7 +11,7 @@ use lib.ListN.{length, take, drop, length-append}
 use lib.Seq.{take-add, drop-drop}
 use Rattle.octets.specs.Pick.{pick}
 use Rattle.octets.specs.Octets.{Bytes}
-use Rattle.lacing.specs.Lacing.{unfinishedFrom, cutFrom}
+use Rattle.page_lacing.specs.Lacing.{unfinishedFrom, cutFrom}
 use Rattle.stream.specs.Page.{Page, ends, wholeFrom, whole, rest}
 use Rattle.stream.specs.State.{nothing, held, unfinished}
 use Rattle.stream.specs.Packets.{begun, join}

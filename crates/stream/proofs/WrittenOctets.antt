@@ -16,7 +16,7 @@ use Rattle.octets.proofs.Numbers.{octets-below}
 use Rattle.octets.proofs.Parts.{octets-tail, octets-take, octets-drop}
 use Rattle.refusal.specs.declared.Refusal.{Refusal}
 use Rattle.refusal.specs.Checks.{firstOf}
-use Rattle.ogg_crc.specs.Crc.{pageCrc}
+use Rattle.page_crc.specs.Crc.{pageCrc}
 use Rattle.page_writer.specs.Writing.{sealed, startOf, pageBytes, pageSize, writeChecks, written as writtenBy, writeOut}
 use Rattle.stream.specs.Page.{Page}
 use Rattle.stream.specs.Example.{written}

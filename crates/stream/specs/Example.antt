@@ -8,7 +8,7 @@ use lib.ListN.{take, drop, replicate}
 use Rattle.octets.specs.Pick.{pick}
 use Rattle.octets.specs.Octets.{Bytes, Octets}
 use Rattle.refusal.specs.Told.{gives, refuses}
-use Rattle.ogg_crc.specs.Crc.{pageCrc}
+use Rattle.page_crc.specs.Crc.{pageCrc}
 use Rattle.page_layout.specs.declared.PageHeader.{PageHeader}
 use Rattle.page_writer.specs.Writing.{pageSize, writeOut}
 use Rattle.granule.specs.declared.Position.the-variants.{At}

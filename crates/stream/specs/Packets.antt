@@ -7,7 +7,7 @@ use lib.Dec.{ltb}
 use lib.ListN.{length}
 use Rattle.octets.specs.Pick.{pick}
 use Rattle.octets.specs.Octets.{Bytes}
-use Rattle.lacing.specs.Lacing.{endedFrom, unfinishedFrom}
+use Rattle.page_lacing.specs.Lacing.{endedFrom, unfinishedFrom}
 use Rattle.stream.specs.Page.{Page, whole, rest}
 use Rattle.stream.specs.Readings.{Readings}
 use Rattle.stream.specs.State.{Carried, nothing, dropped, held, State, inHeaders}

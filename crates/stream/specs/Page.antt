@@ -9,7 +9,7 @@ use Rattle.octets.specs.Pick.{pick}
 use Rattle.octets.specs.Octets.{Bytes}
 use Rattle.page_layout.specs.declared.PageHeader.{PageHeader}
 use Rattle.page_layout.specs.Page.{headerOf, lacingOf, bodyOf}
-use Rattle.lacing.specs.Lacing.{cutFrom, unfinishedFrom}
+use Rattle.page_lacing.specs.Lacing.{cutFrom, unfinishedFrom}
 
 pub record Page : Type 0 where
   pub header : PageHeader

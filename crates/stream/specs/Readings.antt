@@ -7,11 +7,11 @@ use Rattle.octets.specs.Octets.{Bytes}
 use Rattle.page_layout.specs.Page.{checksumOf}
 use Rattle.page_size.specs.Size.{isOnePage}
 use Rattle.head_fields.specs.declared.Head.{Head}
-use Rattle.opus_head.specs.Fields.{headOf}
+use Rattle.head_reader.specs.Fields.{headOf}
 use Rattle.head_fields.specs.Right.{rightMapping}
-use Rattle.opus_head.specs.Reading.{isHead}
-use Rattle.opus_tags.specs.Right.{isTags}
-use Rattle.opus_packet.specs.Streams.{lengthsOf, isIllegal, isMixed, firstLength}
+use Rattle.head_reader.specs.Reading.{isHead}
+use Rattle.tags_reader.specs.Right.{isTags}
+use Rattle.packet_reader.specs.Streams.{lengthsOf, isIllegal, isMixed, firstLength}
 
 pub record Readings : Type 0 where
   pub isPage : Bytes → Bool  -- exactly one whole page, of version 0 (3)

@@ -8,11 +8,11 @@ use Rattle.octets.specs.Octets.{Bytes, Octets, total}
 use Rattle.refusal.specs.declared.Refusal.the-variants.{BadHead, BadMapping, BadTags}
 use Rattle.refusal.specs.Checks.{Check, _when_, firstOf}
 use Rattle.refusal.specs.Told.{gives, refuses, decided}
-use Rattle.ogg_page.specs.Reading.{readPage}
-use Rattle.opus_head.specs.Reading.{readHead}
+use Rattle.page_reader.specs.Reading.{readPage}
+use Rattle.head_reader.specs.Reading.{readHead}
 use Rattle.tags_layout.specs.Layout.{tagsOf}
-use Rattle.opus_tags.specs.Reading.{readTags}
-use Rattle.opus_packet.specs.Streams.{readPacket}
+use Rattle.tags_reader.specs.Reading.{readTags}
+use Rattle.packet_reader.specs.Streams.{readPacket}
 use Rattle.granule.specs.declared.Position.the-variants.{Unset}
 use Rattle.stream.specs.declared.Counts.{Counts}
 use Rattle.stream.specs.Page.{Page, pageOf, continued}

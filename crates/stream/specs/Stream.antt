@@ -8,7 +8,7 @@ use lib.ListN.{length, take, drop}
 use Rattle.octets.specs.Pick.{pick}
 use Rattle.octets.specs.Octets.{Bytes, total}
 use Rattle.head_fields.specs.declared.Head.{Head}
-use Rattle.opus_head.specs.Reading.{noHead}
+use Rattle.head_reader.specs.Reading.{noHead}
 use Rattle.granule.specs.declared.Position.{Position}
 use Rattle.granule.specs.declared.Position.the-variants.{Unset, At}
 use Rattle.granule.specs.Samples.{tally, isTrimmed}

@@ -79,7 +79,7 @@ fn comment_stage(before: Reader, next: Reader, body: &[u8]) -> Stage {
 // After the first page was accepted, which is the identification header, or a page of the comment packet.
 fn accepted(p: Progress, next: Reader, body: &[u8]) -> Progress {
     if p.pages == 0 {
-        let read = opus_head::read_head(body);
+        let read = head_reader::read_head(body);
         let head = read.head;
         return Progress {
             reader: next,
@@ -120,7 +120,7 @@ fn ended(p: Progress, n: usize) -> Progress {
     if n == 0 {
         return stopped(p, Stage::Cut);
     }
-    let why = cut_rest::refusal_of_rest(p.reader);
+    let why = feed_partial::refusal_of_rest(p.reader);
     stopped(p, Stage::Refused(refusal::number(why)))
 }
 
@@ -177,7 +177,7 @@ fn goes_on(p: Progress) -> bool {
 
 // Nothing is fed yet, and no header is known: the fields are those of a reading that is refused.
 fn begin() -> State {
-    let read = opus_head::read_head(b"");
+    let read = head_reader::read_head(b"");
     let head = read.head;
     State {
         progress: Progress {

@@ -1,9 +1,9 @@
 // Listing the two headers.
 use super::write;
 use head_fields::Head;
-use opus_tags::TagsRead;
 use tags_layout::Part;
 use tags_layout::PartRead;
+use tags_reader::TagsRead;
 
 // How far the listing of comments has come: where the next one's length stands in the packet, how many bytes of the output
 // buffer are filled, and whether it goes on.
@@ -36,7 +36,7 @@ fn part_at(packet: &[u8], place: usize) -> Part {
 }
 
 fn count_of(packet: &[u8]) -> usize {
-    match opus_tags::read_tags(packet) {
+    match tags_reader::read_tags(packet) {
         TagsRead::Count(n) => n,
         TagsRead::Refused(_) => 0,
     }
@@ -47,7 +47,7 @@ fn list_comment(l: Listing, packet: &[u8], out: &mut [u8]) -> Listing {
     let p = part_at(packet, l.place);
     let comment = octets::part_of(packet, p.start, p.size);
     let place = std::num::wrapping_add_usize(p.start, p.size);
-    let filled = comment_lines::put_comment(out, l.filled, comment);
+    let filled = tags_lines::put_comment(out, l.filled, comment);
     if filled > l.filled {
         return Listing {
             place,
@@ -58,7 +58,7 @@ fn list_comment(l: Listing, packet: &[u8], out: &mut [u8]) -> Listing {
     let goes_on = write(out, l.filled);
     Listing {
         place,
-        filled: comment_lines::put_comment(out, 0, comment),
+        filled: tags_lines::put_comment(out, 0, comment),
         goes_on,
     }
 }
@@ -82,7 +82,7 @@ fn put_headers(out: &mut [u8], head: Head, packet: &[u8]) -> usize {
     let at = put_format(out, head);
     let at = head_lines::put_gain(out, at, head.gain);
     let at = put_streams(out, at, head);
-    comment_lines::put_text(
+    tags_lines::put_text(
         out,
         at,
         b"vendor ",
@@ -114,6 +114,6 @@ pub(crate) fn list(head: Head, packet: &[u8]) {
 
 pub(crate) fn list_refused(number: u8, page: u64) {
     let mut out = [0u8; 64];
-    let n = lines::put_refused(&mut out, 0, number as u64, page);
+    let n = list_lines::put_refused(&mut out, 0, number as u64, page);
     write(&out, n);
 }

@@ -1,10 +1,10 @@
 // The parts of a comment header (RFC 7845, 5.2): its vendor, a comment, and the gain in one. Nothing is copied.
 ghost use mathlib.Core.Path.{_≡_};
 ghost use Rattle.refusal.specs.Told.{numberIn};
-ghost use Rattle.opus_comment.specs.Gain.{toldGain};
+ghost use Rattle.tags_comment.specs.Gain.{toldGain};
 ghost use Rattle.tags_layout.specs.Finding.{toldPart};
-ghost use Rattle.opus_tags.specs.Reading.{findVendor, findComment, partIn, readGain};
-use opus_comment::GainRead;
+ghost use Rattle.tags_reader.specs.Reading.{findVendor, findComment, partIn, readGain};
+use tags_comment::GainRead;
 use tags_layout::PartRead;
 
 // The part that was found, or an empty one.
@@ -21,21 +21,21 @@ fn part_in(b: &[u8], found: PartRead) -> &[u8]
 pub fn vendor(b: &[u8]) -> &[u8]
     ensures { λ r. ⌜ now r ≡ partIn (now (b .entry)) (findVendor (now (b .entry))) ⌝ }
 {
-    part_in(b, opus_tags::find_vendor(b))
+    part_in(b, tags_reader::find_vendor(b))
 }
 
 // Comment i, empty where `comment_number` is not 0.
 pub fn comment(b: &[u8], i: usize) -> &[u8]
     ensures { λ r. ⌜ now r ≡ partIn (now (b .entry)) (findComment (now (b .entry)) i) ⌝ }
 {
-    part_in(b, opus_tags::find_comment(b, i))
+    part_in(b, tags_reader::find_comment(b, i))
 }
 
 // The number by which comment i is refused: 14, then 20; 0 for none.
 pub fn comment_number(b: &[u8], i: usize) -> u8
     ensures { λ r. ⌜ r ≡ numberIn (findComment (now (b .entry)) i) ⌝ }
 {
-    match opus_tags::find_comment(b, i) {
+    match tags_reader::find_comment(b, i) {
         PartRead::Found(_) => 0,
         PartRead::Refused(why) => refusal::number(why),
     }
@@ -45,8 +45,8 @@ pub fn comment_number(b: &[u8], i: usize) -> u8
 pub fn gain(b: &[u8], i: usize) -> GainRead
     ensures { λ r. ⌜ toldGain r ≡ readGain (now (b .entry)) i ⌝ }
 {
-    match opus_tags::find_comment(b, i) {
-        PartRead::Found(p) => opus_comment::comment_gain(octets::part_of(b, p.start, p.size)),
+    match tags_reader::find_comment(b, i) {
+        PartRead::Found(p) => tags_comment::comment_gain(octets::part_of(b, p.start, p.size)),
         PartRead::Refused(why) => GainRead::Refused(why),
     }
 }

@@ -8,7 +8,7 @@ use borrow.Author.Tests.{lt-leb}
 use lib.Dec.{leb}
 use Rattle.octets.specs.Pick.{pick}
 use Rattle.octets.specs.Octets.{Bytes}
-use Rattle.opus_comment.specs.Names.{rightComment, isNamed}
+use Rattle.tags_comment.specs.Names.{rightComment, isNamed}
 use Rattle.tags_rules.specs.Right.{trackGain, albumGain, allRight, occurrences, rightComments}
 use Rattle.tags_rules.specs.Code.{goesOn, rightFrom}
 

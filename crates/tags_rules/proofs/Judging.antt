@@ -2,7 +2,7 @@
 use mathlib.Core.Path.{_≡_}
 use mathlib.Core.Bool.{Bool, true, false, _&&_, _||_}
 use Rattle.octets.specs.Octets.{Bytes}
-use Rattle.opus_comment.specs.Names.{rightComment, isNamed}
+use Rattle.tags_comment.specs.Names.{rightComment, isNamed}
 use Rattle.tags_rules.specs.declared.Gains.the-variants.{Wrong, Seen}
 use Rattle.tags_rules.specs.Right.{trackGain, albumGain}
 use Rattle.tags_rules.specs.Code.{judged}

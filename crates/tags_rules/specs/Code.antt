@@ -3,7 +3,7 @@ use mathlib.Core.Bool.{Bool, true, not, _&&_, _||_}
 use mathlib.Core.List.{List, [], _∷_}
 use Rattle.octets.specs.Pick.{pick}
 use Rattle.octets.specs.Octets.{Bytes}
-use Rattle.opus_comment.specs.Names.{rightComment, isNamed}
+use Rattle.tags_comment.specs.Names.{rightComment, isNamed}
 use Rattle.tags_rules.specs.declared.Gains.{Gains}
 use Rattle.tags_rules.specs.declared.Gains.the-variants.{Wrong, Seen}
 use Rattle.tags_rules.specs.Right.{trackGain, albumGain}

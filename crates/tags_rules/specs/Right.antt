@@ -6,7 +6,7 @@ use mathlib.Core.List.{List, [], _∷_}
 use lib.Dec.{leb}
 use Rattle.octets.specs.Pick.{pick}
 use Rattle.octets.specs.Octets.{Bytes}
-use Rattle.opus_comment.specs.Names.{rightComment, isNamed}
+use Rattle.tags_comment.specs.Names.{rightComment, isNamed}
 
 -- "R128_TRACK_GAIN"
 abbrev pub trackGain : Bytes

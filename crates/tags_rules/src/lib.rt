@@ -12,11 +12,11 @@ pub enum Gains {
 pub fn judge(c: &[u8], track: bool, album: bool) -> Gains
     ensures { λ r. ⌜ r ≡ judged (now (c .entry)) track album ⌝ }
 {
-    if !opus_comment::right_comment(c) {
+    if !tags_comment::right_comment(c) {
         return Gains::Wrong;
     }
-    let is_track = opus_comment::is_named(b"R128_TRACK_GAIN", c);
-    let is_album = opus_comment::is_named(b"R128_ALBUM_GAIN", c);
+    let is_track = tags_comment::is_named(b"R128_TRACK_GAIN", c);
+    let is_album = tags_comment::is_named(b"R128_ALBUM_GAIN", c);
     if track & is_track {
         return Gains::Wrong;
     }

@@ -10,7 +10,7 @@ use Rattle.octets.specs.Numbers.{octets}
 use Rattle.octets.proofs.Numbers.{length-octets}
 use Rattle.octets.proofs.Copying.{copied-fits, copied-append}
 use Rattle.tags_layout.specs.Layout.{signature}
-use Rattle.opus_tags.specs.Packet.{textBytes, commentsBytes, tagsBytes}
+use Rattle.tags_reader.specs.Packet.{textBytes, commentsBytes, tagsBytes}
 use Rattle.tags_writer.specs.Writing.{cutBy, packetOf}
 use Rattle.tags_writer.proofs.Lengths.{sum-step, cut-step}
 

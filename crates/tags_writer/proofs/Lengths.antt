@@ -10,7 +10,7 @@ use lib.Dec.{eqb}
 use lib.ListN.{length, getD, take, drop, drop-of-length-le}
 use lib.Seq.{drop-cons, drop-drop}
 use Rattle.octets.specs.Octets.{Bytes, total}
-use Rattle.opus_comment.specs.Names.{isNamed}
+use Rattle.tags_comment.specs.Names.{isNamed}
 use Rattle.tags_rules.specs.declared.Gains.the-variants.{Wrong, Seen}
 use Rattle.tags_rules.specs.Right.{trackGain, albumGain}
 use Rattle.tags_writer.specs.Writing.{cutBy}

@@ -16,9 +16,9 @@ use Rattle.refusal.specs.Told.{gives}
 use Rattle.refusal.proofs.Checks.{no-refusal, passed}
 use Rattle.octets.proofs.Beginnings.{begins-append}
 use Rattle.tags_layout.specs.Layout.{Tags, signature, partAt, nextPlace, fitsAt, bytesOf, allFit, textsFrom, placeAfter, vendorPart, countPlace, countOf, firstPlace, commentPlace, isLaidOut, tagsOf}
-use Rattle.opus_tags.specs.Right.{rightTags, isTags}
-use Rattle.opus_tags.specs.Reading.{readTags}
-use Rattle.opus_tags.specs.Packet.{textBytes, commentsBytes, tagsBytes}
+use Rattle.tags_reader.specs.Right.{rightTags, isTags}
+use Rattle.tags_reader.specs.Reading.{readTags}
+use Rattle.tags_reader.specs.Packet.{textBytes, commentsBytes, tagsBytes}
 use Rattle.tags_writer.specs.Writing.{cutBy, given, packetOf, writeChecks, writeTold, writeOut}
 use Rattle.tags_writer.specs.Statements.{ReadsBack}
 use Rattle.tags_writer.proofs.Laying.{length-text, length-cut, length-comments, length-packet}

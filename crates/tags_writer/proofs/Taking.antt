@@ -16,7 +16,7 @@ use Rattle.refusal.specs.Checks.{firstOf}
 use Rattle.refusal.specs.Told.{gives}
 use Rattle.tags_writer.specs.declared.TagsWritten.the-variants.{Bytes as Written, Refused}
 use Rattle.tags_rules.specs.Right.{rightComments}
-use Rattle.opus_tags.specs.Right.{rightTags}
+use Rattle.tags_reader.specs.Right.{rightTags}
 use Rattle.tags_writer.specs.Writing.{cutBy, given, packetOf, writeChecks, writeTold, writeOut, Wrote}
 use Rattle.tags_rules.specs.Code.{rightFrom}
 use Rattle.tags_writer.specs.Code.{rightLengths, rightFields}

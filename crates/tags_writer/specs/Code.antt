@@ -5,7 +5,7 @@ use mathlib.Core.List.{List}
 use lib.Dec.{leb, eqb}
 use lib.ListN.{length}
 use Rattle.octets.specs.Octets.{Bytes, total}
-use Rattle.opus_tags.specs.Right.{rightTags}
+use Rattle.tags_reader.specs.Right.{rightTags}
 use Rattle.tags_rules.specs.Code.{rightFrom}
 use Rattle.tags_writer.specs.Writing.{cutBy, given, packetOf}
 

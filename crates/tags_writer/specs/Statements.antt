@@ -5,7 +5,7 @@ use mathlib.Core.List.{List}
 use lib.ListN.{take}
 use Rattle.octets.specs.Octets.{Bytes}
 use Rattle.refusal.specs.Told.{gives}
-use Rattle.opus_tags.specs.Reading.{readTags}
+use Rattle.tags_reader.specs.Reading.{readTags}
 use Rattle.tags_writer.specs.Writing.{given, writeTold, writeOut}
 
 -- reading what was written gives the same vendor and comments, and no trailing bytes

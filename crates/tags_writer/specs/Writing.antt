@@ -14,8 +14,8 @@ use Rattle.refusal.specs.Checks.{Check, _when_, firstOf}
 use Rattle.refusal.specs.Told.{Told, gives, refuses, decided}
 use Rattle.refusal.specs.Numbers.{numberOf}
 use Rattle.tags_layout.specs.Layout.{Tags}
-use Rattle.opus_tags.specs.Right.{rightTags}
-use Rattle.opus_tags.specs.Packet.{tagsBytes}
+use Rattle.tags_reader.specs.Right.{rightTags}
+use Rattle.tags_reader.specs.Packet.{tagsBytes}
 use Rattle.tags_writer.specs.declared.TagsWritten.{TagsWritten}
 use Rattle.tags_writer.specs.declared.TagsWritten.the-variants.{Bytes as Written, Refused}
 

@@ -3,7 +3,7 @@ ghost use Prim.Native.Nat.{_+_, _*_, _≤_};
 ghost use mathlib.Core.Path.{_≡_};
 ghost use lib.ListN.{length};
 ghost use Rattle.octets.specs.Octets.{total, copied};
-ghost use Rattle.opus_tags.specs.Packet.{textBytes, commentsBytes};
+ghost use Rattle.tags_reader.specs.Packet.{textBytes, commentsBytes};
 ghost use Rattle.tags_writer.specs.Writing.{cutBy, packetOf, Wrote};
 ghost use Rattle.tags_writer.specs.Code.{rightLengths, rightFields};
 use refusal::Refusal;

@@ -1,7 +1,7 @@
 -- `embulgri::embulgri_packet_read` meets its contract. Assumes nothing.
 use mathlib.Core.Path.{ap}
 use borrow.Author.Needs.{needs}
-use Rattle.opus_packet.specs.Streams.{toldPacket}
+use Rattle.packet_reader.specs.Streams.{toldPacket}
 use Rattle.embulgri.proofs.Answers.{answered, refused}
 use Rattle.embulgri.proofs.embulgri_packet_read.Statement.{statement}
 use Rattle.embulgri.proofs.embulgri_packet_read.Tie as tie

@@ -5,8 +5,8 @@ use borrow.Author.Needs.{needs}
 use mir.Syntax.{w16}
 use mir.Val.{toZ, ofZ}
 use Rattle.refusal.specs.Told.{Told, retold}
-use Rattle.opus_comment.specs.declared.GainRead.{GainRead}
-use Rattle.opus_comment.specs.Gain.{toldGain}
+use Rattle.tags_comment.specs.declared.GainRead.{GainRead}
+use Rattle.tags_comment.specs.Gain.{toldGain}
 use Rattle.embulgri.proofs.Answers.{answered, refused}
 use Rattle.embulgri.proofs.embulgri_tags_gain.Statement.{statement}
 use Rattle.embulgri.proofs.embulgri_tags_gain.Tie as tie

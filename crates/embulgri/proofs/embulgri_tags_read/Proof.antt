@@ -1,7 +1,7 @@
 -- `embulgri::embulgri_tags_read` meets its contract. Assumes nothing.
 use mathlib.Core.Path.{ap}
 use borrow.Author.Needs.{needs}
-use Rattle.opus_tags.specs.Reading.{toldCount}
+use Rattle.tags_reader.specs.Reading.{toldCount}
 use Rattle.embulgri.proofs.Answers.{answered, refused}
 use Rattle.embulgri.proofs.embulgri_tags_read.Statement.{statement}
 use Rattle.embulgri.proofs.embulgri_tags_read.Tie as tie

@@ -4,10 +4,10 @@ use native.Mathlib.Omega.{arith}
 use borrow.Author.Needs.{needs}
 use denote.Ref.{now}
 use mir.Facts.{toZ-ofZ}
-use Rattle.putting.specs.Writing.{Laid}
-use Rattle.putting.proofs.Putting.{put-known, laid-put, laid-then}
-use Rattle.number_text.specs.Numbers.{signedDecimal, decibelsEnd}
-use Rattle.number_text.proofs.Texts.{length-signed, length-end}
+use Rattle.text_put.specs.Writing.{Laid}
+use Rattle.text_put.proofs.Putting.{put-known, laid-put, laid-then}
+use Rattle.text_gain.specs.Numbers.{signedDecimal, decibelsEnd}
+use Rattle.text_gain.proofs.Texts.{length-signed, length-end}
 use Rattle.head_lines.proofs.lay_gain.Statement.{statement}
 use Rattle.head_lines.proofs.lay_gain.Tie as tie
 

@@ -2,9 +2,9 @@
 use native.Mathlib.Omega.{arith}
 use borrow.Author.Needs.{needs}
 use lib.ListN.{length-append}
-use Rattle.putting.specs.Marks.{space}
-use Rattle.putting.proofs.Putting.{laid-put, laid-then}
-use Rattle.decimal.specs.Decimal.{decimal}
+use Rattle.text_put.specs.Marks.{space}
+use Rattle.text_put.proofs.Putting.{laid-put, laid-then}
+use Rattle.text_decimal.specs.Decimal.{decimal}
 use Rattle.head_lines.proofs.lay_index.Statement.{statement}
 use Rattle.head_lines.proofs.lay_index.Tie as tie
 

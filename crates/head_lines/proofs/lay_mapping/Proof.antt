@@ -4,7 +4,7 @@ use native.Mathlib.Omega.{arith}
 use borrow.Author.Needs.{needs}
 use denote.Ref.{now}
 use lib.ListN.{length}
-use Rattle.putting.proofs.Putting.{laid-then}
+use Rattle.text_put.proofs.Putting.{laid-then}
 use Rattle.head_lines.specs.Lines.{spaced}
 use Rattle.head_lines.proofs.Parts.{length-spaced}
 use Rattle.head_lines.proofs.lay_mapping.Statement.{statement}

@@ -4,9 +4,9 @@ use Prim.Native.Nat.{_+_, _-_}
 use native.Mathlib.Omega.{arith}
 use denote.Ref.{now}
 use lib.ListN.{length, getD, drop, length-append}
-use Rattle.putting.specs.Marks.{space}
-use Rattle.putting.proofs.Filling.{Filling, filling-first, filling-next, filling-done}
-use Rattle.decimal.specs.Decimal.{decimal}
+use Rattle.text_put.specs.Marks.{space}
+use Rattle.text_put.proofs.Filling.{Filling, filling-first, filling-next, filling-done}
+use Rattle.text_decimal.specs.Decimal.{decimal}
 use Rattle.head_lines.specs.Lines.{spaced}
 use Rattle.head_lines.proofs.Parts.{next-index, no-index}
 use Rattle.head_lines.proofs.lay_spaced.Statement.{statement}

@@ -7,9 +7,9 @@ use lib.IntN.{ℤ}
 use lib.ListN.{length-append}
 use mir.Facts.{toZ-ofZ}
 use Rattle.octets.specs.Octets.{Bytes}
-use Rattle.putting.proofs.Putting.{laid-known}
-use Rattle.number_text.specs.Numbers.{signedDecimal, decibelsEnd}
-use Rattle.number_text.proofs.Texts.{length-signed, length-end}
+use Rattle.text_put.proofs.Putting.{laid-known}
+use Rattle.text_gain.specs.Numbers.{signedDecimal, decibelsEnd}
+use Rattle.text_gain.proofs.Texts.{length-signed, length-end}
 use Rattle.head_lines.specs.Lines.{gainIs, gainLine}
 use Rattle.head_lines.proofs.Parts.{put-ended}
 use Rattle.head_lines.proofs.put_gain.Statement.{statement}

@@ -7,8 +7,8 @@ use borrow.Author.Needs.{needs}
 use denote.Ref.{now}
 use lib.ListN.{length, take, length-append, length-take}
 use Rattle.octets.specs.Octets.{Bytes}
-use Rattle.putting.specs.Marks.{lineFeed}
-use Rattle.putting.proofs.Putting.{put-known}
+use Rattle.text_put.specs.Marks.{lineFeed}
+use Rattle.text_put.proofs.Putting.{put-known}
 use Rattle.head_fields.specs.Right.{usedPlaces}
 use Rattle.head_lines.specs.Lines.{mappingIs, spaced, mappingLine}
 use Rattle.head_lines.proofs.Parts.{put-ended}

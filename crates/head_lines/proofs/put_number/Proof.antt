@@ -3,10 +3,10 @@ use mathlib.Core.List.{_++_}
 use native.Mathlib.Omega.{arith}
 use borrow.Author.Needs.{needs}
 use denote.Ref.{now}
-use Rattle.putting.specs.Marks.{lineFeed}
-use Rattle.putting.proofs.Putting.{laid-put}
-use Rattle.decimal.specs.Decimal.{decimal}
-use Rattle.decimal.proofs.Decimal.{length-ended, length-u64}
+use Rattle.text_put.specs.Marks.{lineFeed}
+use Rattle.text_put.proofs.Putting.{laid-put}
+use Rattle.text_decimal.specs.Decimal.{decimal}
+use Rattle.text_decimal.proofs.Decimal.{length-ended, length-u64}
 use Rattle.head_lines.specs.Lines.{numberLine}
 use Rattle.head_lines.proofs.Parts.{put-ended}
 use Rattle.head_lines.proofs.put_number.Statement.{statement}

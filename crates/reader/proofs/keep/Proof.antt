@@ -1,7 +1,7 @@
 -- `reader::keep` meets its contract. Assumes nothing.
 use mathlib.Core.Path.{_≡_}
 use borrow.Author.Needs.{needs}
-use Rattle.core_feed.specs.declared.CoreFed.the-variants.{Accepted, Refused}
+use Rattle.feed_page.specs.declared.CoreFed.the-variants.{Accepted, Refused}
 use Rattle.reader.proofs.States.{state-accepted, state-refused}
 use Rattle.reader.proofs.keep.Statement.{statement}
 use Rattle.reader.proofs.keep.Tie as tie

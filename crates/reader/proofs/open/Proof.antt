@@ -1,7 +1,7 @@
 -- `reader::open` meets its contract. Assumes nothing.
 use mathlib.Core.Path.{sym, ap, _∙_}
 use borrow.Author.Needs.{needs}
-use Rattle.core_start.specs.Answers.{toldOpened}
+use Rattle.feed_start.specs.Answers.{toldOpened}
 use Rattle.reader.proofs.open.Statement.{statement}
 use Rattle.reader.proofs.open.Tie as tie
 

@@ -1,7 +1,7 @@
 -- `reader::open_state` meets its contract. Assumes nothing.
 use mathlib.Core.Path.{sym, ap, _∙_}
 use borrow.Author.Needs.{needs}
-use Rattle.core_start.specs.Answers.{toldOpened}
+use Rattle.feed_start.specs.Answers.{toldOpened}
 use Rattle.reader.proofs.States.{state-opened, state-unopened}
 use Rattle.reader.proofs.open_state.Statement.{statement}
 use Rattle.reader.proofs.open_state.Tie as tie

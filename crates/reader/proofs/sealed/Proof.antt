@@ -1,7 +1,7 @@
 -- `reader::sealed` meets its contract. Assumes nothing.
 use mathlib.Core.Path.{_≡_}
 use borrow.Author.Needs.{needs}
-use Rattle.core_feed.specs.declared.CoreFed.the-variants.{Accepted, Refused}
+use Rattle.feed_page.specs.declared.CoreFed.the-variants.{Accepted, Refused}
 use Rattle.reader.proofs.sealed.Statement.{statement}
 use Rattle.reader.proofs.sealed.Tie as tie
 

@@ -3,9 +3,9 @@ use mathlib.Core.Path.{sym, ap, _∙_}
 use borrow.Author.Needs.{needs}
 use denote.Ref.{now}
 use Rattle.refusal.specs.Numbers.{numberOf}
-use Rattle.opus_comment.specs.Gain.{commentGain}
+use Rattle.tags_comment.specs.Gain.{commentGain}
 use Rattle.tags_layout.specs.Finding.{toldPart}
-use Rattle.opus_tags.proofs.Finding.{gain-refused, gain-found}
+use Rattle.tags_reader.proofs.Finding.{gain-refused, gain-found}
 use Rattle.tags_parts.proofs.gain.Statement.{statement}
 use Rattle.tags_parts.proofs.gain.Tie as tie
 

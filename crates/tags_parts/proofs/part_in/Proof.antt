@@ -4,7 +4,7 @@ use borrow.Author.Needs.{needs}
 use denote.Ref.{now}
 use Rattle.tags_layout.specs.declared.PartRead.{PartRead}
 use Rattle.tags_layout.specs.Finding.{toldPart}
-use Rattle.opus_tags.specs.Reading.{partIn}
+use Rattle.tags_reader.specs.Reading.{partIn}
 use Rattle.tags_parts.proofs.part_in.Statement.{statement}
 use Rattle.tags_parts.proofs.part_in.Tie as tie
 

@@ -2,7 +2,7 @@
 use mathlib.Core.Path.{ap, _∙_}
 use borrow.Author.Needs.{needs}
 use denote.Ref.{now}
-use Rattle.opus_tags.specs.Reading.{partIn}
+use Rattle.tags_reader.specs.Reading.{partIn}
 use Rattle.tags_parts.proofs.vendor.Statement.{statement}
 use Rattle.tags_parts.proofs.vendor.Tie as tie
 

@@ -8,7 +8,7 @@ use denote.Ref.{now}
 use lib.ListN.{length, getD, take, drop}
 use Rattle.octets.specs.Octets.{Bytes, total, copied}
 use Rattle.octets.proofs.Copying.{length-copied}
-use Rattle.opus_tags.specs.Packet.{textBytes, commentsBytes}
+use Rattle.tags_reader.specs.Packet.{textBytes, commentsBytes}
 use Rattle.tags_writer.specs.Writing.{cutBy}
 use Rattle.tags_writer.proofs.Laying.{all-copied, comment-fits, comment-length, rest-sum, comments-copied}
 use Rattle.tags_writer.proofs.put_comments.Statement.{statement}

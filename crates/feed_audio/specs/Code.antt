@@ -1,0 +1,249 @@
+-- What the private functions answer and ask, in the code's words; the files of `proofs/` have the laws to the rules. Assumes
+-- nothing.
+use Prim.Native.Nat.{ℕ, _+_, _*_, _-_, _%_, _≤_, _<_, _^_}
+use mathlib.Core.Path.{_≡_}
+use mathlib.Core.Bool.{Bool, true, false}
+use mathlib.Core.List.{List, [], _∷_, _++_}
+use mathlib.Core.Option.{Option, none, some}
+use lib.Dec.{ltb, eqb}
+use lib.ListN.{length, take, drop}
+use Rattle.octets.specs.Pick.{pick}
+use Rattle.octets.specs.Octets.{Bytes, total}
+use Rattle.refusal.specs.Checks.{Check, firstOf}
+use Rattle.refusal.specs.Told.{Told, gives, refuses}
+use Rattle.refusal.specs.Numbers.{numberOf}
+use Rattle.page_layout.specs.declared.PageHeader.{PageHeader}
+use Rattle.packet_reader.specs.Streams.{readPacket}
+use Rattle.granule.specs.declared.Position.{Position}
+use Rattle.granule.specs.declared.Placed.{Placed}
+use Rattle.granule.specs.Samples.{trimmedOf, skippedOf, keptOf}
+use Rattle.granule.specs.Judging.{judge, placed}
+use Rattle.stream.specs.declared.Phase.the-variants.{Audio, Ended}
+use Rattle.stream.specs.declared.Pending.{Pending}
+use Rattle.stream.specs.declared.Pending.the-variants.{Nothing, Held, Dropped}
+use Rattle.stream.specs.declared.Core.{Core}
+use Rattle.stream.specs.declared.Counts.{Counts}
+use Rattle.stream.specs.Page.{Page, isLastPage, wholeFrom}
+use Rattle.stream.specs.Readings.{Readings}
+use Rattle.stream.specs.State.{State}
+use Rattle.stream.specs.Packets.{Seen, seen, isLong, audioPackets}
+use Rattle.stream.specs.Rules.{packetChecks, timeChecks}
+use Rattle.stream.specs.Feed.{Reader, view, carriedIn, Entry, Lent, listed, Fed, fedBy}
+use Rattle.feed_audio.specs.declared.packets.Piece.{Piece}
+use Rattle.feed_audio.specs.declared.packets.Lengths.{Lengths}
+use Rattle.feed_audio.specs.declared.packets.Lengths.the-variants.{All, Refused}
+use Rattle.feed_audio.specs.declared.times.Timed.{Timed}
+use Rattle.feed_audio.specs.declared.times.Timed.the-variants.{Packets, Refused as Untimed}
+use Rattle.feed_lacing.specs.Scan.{tailBy}
+
+-- ---- the lacing values
+
+-- one value more in front
+abbrev pub further : Piece → Piece
+further p = record { values = p .values + 1; bytes = p .bytes; ends = p .ends }
+
+-- the first piece: how many values, how many bytes, n being known, and whether a packet ends with it
+unfoldable pub firstFrom : ℕ → Bytes → Piece
+firstFrom n [] = record { values = 0; bytes = n; ends = false }
+firstFrom n (v ∷ l) = pick (ltb v 255) (record { values = 1; bytes = n + v; ends = true }) (further (firstFrom (n + v) l))
+
+-- ---- the packets' lengths
+
+-- 0 streams are read as 1
+abbrev pub countOf : ℕ → ℕ
+countOf n = pick (eqb n 0) 1 n
+
+-- some lengths in front of others
+abbrev pub inFront : List ℕ → Told (List ℕ) → Told (List ℕ)
+inFront ds (gives es) = gives (ds ++ es)
+inFront ds (refuses n) = refuses n
+
+abbrev pub andLater : Told ℕ → Told (List ℕ) → Told (List ℕ)
+andLater (gives d) t = inFront (d ∷ []) t
+andLater (refuses n) t = refuses n
+
+-- the lengths of packets of n streams, or the first refusal among them
+unfoldable pub measured : ℕ → List Bytes → Told (List ℕ)
+measured n [] = gives []
+measured n (b ∷ bs) = andLater (readPacket b n) (measured n bs)
+
+abbrev pub toldLengths : Lengths → List ℕ → Told (List ℕ)
+toldLengths (All n d) lens = gives (take n lens)
+toldLengths (Refused r) lens = refuses (numberOf r)
+
+-- n lengths sum to d
+pub record Sums (n d : ℕ) (lens : List ℕ) : Type 0 where
+  pub adds : d ≡ total (take n lens)
+  pub few : n ≤ length lens
+  pub small : d ≤ 5760 * 256
+
+abbrev pub SumsIn : Lengths → List ℕ → Type 0
+SumsIn (All n d) lens = Sums n d lens
+SumsIn (Refused r) lens = Unit {0}
+
+pub record Measures (r : Lengths) (lens : List ℕ) (t : Told (List ℕ)) : Type 0 where
+  pub tells : toldLengths r lens ≡ t
+  pub sums : SumsIn r lens
+
+-- what the loop that measures asks: it starts within the page, the page has the bytes, the lengths have room, n of them sum
+-- to d
+pub record Ready (from at n d : ℕ) (l body lens : List ℕ) : Type 0 where
+  pub few : length l ≤ 255
+  pub within : from ≤ length l
+  pub bytes : at + total (drop from l) ≤ length body
+  pub room : n + length l ≤ length lens + from
+  pub one : n ≤ 1
+  pub adds : d ≡ total (take n lens)
+  pub small : d ≤ 5760 * n
+
+-- the packets that complete: the held one lies in the carry buffer, its last piece appended
+abbrev pub packetsBy : Pending → ℕ → ℕ → Bytes → Bytes → Bytes → List Bytes
+packetsBy Nothing values bytes l body carry = wholeFrom 0 l body
+packetsBy (Held n) values bytes l body carry = take (n + bytes) carry ∷ wholeFrom 0 (drop values l) (drop bytes body)
+packetsBy Dropped values bytes l body carry = wholeFrom 0 (drop values l) (drop bytes body)
+
+-- where a held packet ends once its next piece, of b bytes, is appended
+abbrev pub heldEnd : Pending → ℕ → ℕ
+heldEnd Nothing b = 0
+heldEnd (Held n) b = n + b
+heldEnd Dropped b = 0
+
+-- what the code that measures asks: a page that passed 3 and 9, and room
+pub record Measurable (pending : Pending) (values bytes : ℕ) (l body carry lens : List ℕ) : Type 0 where
+  pub few : length l ≤ 255
+  pub room : 255 ≤ length lens
+  pub some : 1 ≤ values
+  pub within : values ≤ length l
+  pub sums : total l ≤ length body
+  pub rest : bytes + total (drop values l) ≤ length body
+  pub held : heldEnd pending bytes ≤ length carry
+
+-- ---- 15 to 19
+
+-- the lengths being measured as t
+abbrev pub timedBy : Told (List ℕ) → Core → PageHeader → Told Placed
+timedBy (gives ds) k h = judge (k .position) (k .preskip) (h .granule) (total ds) (isLastPage (h .flags))
+timedBy (refuses n) k h = refuses n
+
+abbrev pub toldTimed : Timed → Told Placed
+toldTimed (Packets n d w) = gives w
+toldTimed (Untimed r) = refuses (numberOf r)
+
+-- accepted: the lengths stand in front, and the stamps fit
+pub record Runs (n d : ℕ) (w : Placed) (lens : List ℕ) (k : Core) (h : PageHeader) (t : Told (List ℕ)) : Type 0 where
+  pub lengths : gives (take n lens) ≡ t
+  pub adds : d ≡ total (take n lens)
+  pub few : n ≤ length lens
+  pub place : w ≡ placed (k .position) (isLastPage (h .flags)) (h .granule) d
+  pub fits : w .from + total (take n lens) < 2 ^ 64
+
+abbrev pub RunsIn : Timed → List ℕ → Core → PageHeader → Told (List ℕ) → Type 0
+RunsIn (Packets n d w) lens k h t = Runs n d w lens k h t
+RunsIn (Untimed r) lens k h t = Unit {0}
+
+pub record Times (r : Timed) (lens : List ℕ) (k : Core) (h : PageHeader) (t : Told (List ℕ)) : Type 0 where
+  pub tells : toldTimed r ≡ timedBy t k h
+  pub runs : RunsIn r lens k h t
+
+-- ---- the lists
+
+pub record Room (n from : ℕ) (ls es ss ks : List ℕ) : Type 0 where
+  pub lens : n ≤ length ls
+  pub ends : n ≤ length es
+  pub sizes : n ≤ length ss
+  pub kept : n ≤ length ks
+  pub fits : from + total (take n ls) < 2 ^ 64
+
+-- the three lists with these entries, and the samples that are then still to skip
+pub record Lists (left : ℕ) (ends sizes kept : List ℕ) (skip : ℕ) (ds : List ℕ) (es : List Entry) (ends₀ sizes₀ kept₀ : List ℕ) : Type 0 where
+  pub ended : ends ≡ listed (λ (e : Entry). e .end) es ends₀
+  pub sized : sizes ≡ listed (λ (e : Entry). e .size) es sizes₀
+  pub keeps : kept ≡ listed (λ (e : Entry). e .kept) es kept₀
+  pub skips : left ≡ skip - total ds
+
+abbrev pub countsBy : ℕ → ℕ → Placed → ℕ → Bool → ℕ → Counts
+countsBy n d w skip last g = record {
+  packets = n;
+  samples = d;
+  kept = keptOf skip last g (w .from) d;
+  skipped = skippedOf skip last g (w .from) d;
+  trimmed = trimmedOf last g (w .from) d;
+  hole = w .hole;
+}
+
+-- ---- the carry buffer and the next state
+
+-- the last t bytes of the body, where there are any
+unfoldable pub restOf : ℕ → Bytes → Option Bytes
+restOf t body = pick (eqb t 0) none (some (drop (length body - t) body))
+
+-- what is unfinished after the page: a new packet, or, where none completes, the one before
+abbrev pub begunBy : ℕ → Pending
+begunBy rest = pick (eqb rest 0) Nothing (Held rest)
+
+abbrev pub stillBy : Pending → ℕ → Pending
+stillBy Nothing rest = begunBy rest
+stillBy (Held n) rest = Held rest
+stillBy Dropped rest = Dropped
+
+-- the bytes of a new packet, where none completes
+abbrev pub freshBy : Pending → ℕ → ℕ
+freshBy Nothing rest = rest
+freshBy (Held n) rest = 0
+freshBy Dropped rest = 0
+
+abbrev pub nextCore : Core → PageHeader → Pending → Position → Core
+nextCore k h pending position = record {
+  phase = pick (isLastPage (h .flags)) Ended Audio;
+  pending = pending;
+  position = position;
+  serial = h .serial;
+  next = (h .sequence + 1) % 2 ^ 32;
+  streams = k .streams;
+  preskip = k .preskip;
+}
+
+-- ---- the ways of a page
+
+-- past 11: 15 to 19 decide
+abbrev pub lateChecks : Readings → State → Page → Seen → List Check
+lateChecks R t p x = packetChecks R (t .streams) (audioPackets t x) ++ timeChecks R t p x
+
+abbrev pub lateOn : Readings → Reader → Lent → State → Page → Seen → Fed
+lateOn R r m t p x = fedBy (firstOf (lateChecks R t p x)) R r m t p x
+
+unfoldable pub lateFed : Readings → Reader → Lent → Page → Fed
+lateFed R r m p = lateOn R r m (view (r .core) (m .carry)) p (seen (view (r .core) (m .carry)) p)
+
+-- an audio page, and the room of 1
+pub record Fitting (k : Core) (l body cs es ss ks : List ℕ) : Type 0 where
+  pub audio : k .phase ≡ Audio
+  pub few : length l ≤ 255
+  pub sums : total l ≡ length body
+  pub carry : 61440 ≤ length cs
+  pub ends : 255 ≤ length es
+  pub sizes : 255 ≤ length ss
+  pub kept : 255 ≤ length ks
+
+-- it has passed 9; `rest` bytes of its last packet are left
+pub record Scanned (k : Core) (l : Bytes) (carry : List ℕ) (first : Piece) (rest : ℕ) : Type 0 where
+  pub piece : first ≡ firstFrom 0 l
+  pub short : isLong (carriedIn (k .pending) carry) l ≡ false
+  pub tail : rest ≡ tailBy (k .pending) l
+
+-- a packet completes
+pub record Sounding (k : Core) (h : PageHeader) (first : Piece) (rest : ℕ) (l body carry ends sizes kept : List ℕ) : Type 0 where
+  pub fitting : Fitting k l body carry ends sizes kept
+  pub scanned : Scanned k l carry first rest
+  pub done : firstFrom 0 l .ends ≡ true
+  pub measurable : Measurable (k .pending) (first .values) (first .bytes) l body carry ends
+  pub bytes : first .bytes ≤ length body
+  pub left : rest ≤ length body
+  pub granule : h .granule < 2 ^ 63
+
+-- none does
+pub record Silent (k : Core) (bytes rest : ℕ) (l body carry ends sizes kept : List ℕ) : Type 0 where
+  pub fitting : Fitting k l body carry ends sizes kept
+  pub piece : bytes ≡ firstFrom 0 l .bytes
+  pub tail : rest ≡ tailBy (k .pending) l
+  pub undone : firstFrom 0 l .ends ≡ false

@@ -1,0 +1,126 @@
+// The pieces of a page by its lacing values, and the lengths of the packets that complete on it.
+ghost use mathlib.Core.Path.{_≡_};
+ghost use Prim.Native.Nat.{_+_, _<_, _≤_};
+ghost use lib.ListN.{length, take, drop};
+ghost use Rattle.stream.specs.Page.{wholeFrom};
+ghost use Rattle.feed_audio.specs.Code.{firstFrom, countOf, inFront, measured, Measures, Ready, packetsBy, Measurable};
+use packet_reader::PacketRead;
+use refusal::Refusal;
+use stream::Pending;
+
+// The first piece of a page: its lacing values and bytes, and whether a packet ends with it.
+pub(crate) struct Piece {
+    pub(crate) values: usize,
+    pub(crate) bytes: usize,
+    pub(crate) ends: bool,
+}
+
+pub(crate) fn first_piece(lacing: &[u8]) -> Piece
+    requires { ⌜ length (now lacing) ≤ 255 ⌝ }
+    ensures { λ r. ⌜ r ≡ firstFrom 0 (now (lacing .entry)) ⌝ }
+{
+    let mut bytes: usize = 0;
+    let mut i: usize = 0;
+    while i < lacing.len() {
+        let v = octets::wide(lacing[i]);
+        bytes += v;
+        i += 1;
+        if v < 255 {
+            return Piece {
+                values: i,
+                bytes,
+                ends: true,
+            };
+        }
+    }
+    Piece {
+        values: i,
+        bytes,
+        ends: false,
+    }
+}
+
+// 15 or 16; or how many packets there are and the sum of their lengths in samples.
+pub(crate) enum Lengths {
+    All(usize, u32),
+    Refused(Refusal),
+}
+
+// A reader that has its headers has 1 to 255 streams.
+pub(crate) fn stream_count(streams: u8) -> u64
+    ensures { λ r. ⌜ r ≡ countOf streams ⌝ }
+{
+    if streams == 0 { 1 } else { streams as u64 }
+}
+
+// Measures the packets that complete in `body` from value `from` and byte `at` on. The first `n` of `lens` are there
+// already and sum to `d`.
+fn measure(
+    lacing: &[u8],
+    body: &[u8],
+    from: usize,
+    at: usize,
+    streams: u64,
+    lens: &mut [u32],
+    n: usize,
+    d: u32,
+) -> Lengths
+    requires { ⌜ Ready from at n d (now lacing) (now body) (now lens) ⌝ }
+    ensures { λ r. ⌜ Measures r (now (lens .exit)) (inFront (take n (now (lens .entry))) (measured streams (wholeFrom 0 (drop from (now (lacing .entry))) (drop at (now (body .entry)))))) ⌝ }
+{
+    let mut count = n;
+    let mut sum = d;
+    let mut start = at;
+    let mut bytes: usize = 0;
+    let mut i = from;
+    while i < lacing.len() {
+        let v = octets::wide(lacing[i]);
+        bytes += v;
+        i += 1;
+        if v < 255 {
+            let end = start + bytes;
+            match packet_reader::read_packet_quick(&body[start..end], streams) {
+                PacketRead::Refused(why) => return Lengths::Refused(why),
+                PacketRead::Samples(s) => {
+                    lens[count] = s;
+                    count += 1;
+                    sum += s;
+                }
+            }
+            start = end;
+            bytes = 0;
+        }
+    }
+    Lengths::All(count, sum)
+}
+
+// Measures the packets of a page whose first piece, of `values` values and `bytes` bytes, ends. A held packet is whole in
+// `carry`.
+pub(crate) fn measure_page(
+    pending: Pending,
+    values: usize,
+    bytes: usize,
+    lacing: &[u8],
+    body: &[u8],
+    carry: &[u8],
+    streams: u64,
+    lens: &mut [u32],
+) -> Lengths
+    requires { ⌜ Measurable pending values bytes (now lacing) (now body) (now carry) (now lens) ⌝ }
+    ensures { λ r. ⌜ Measures r (now (lens .exit)) (measured streams (packetsBy pending values bytes (now (lacing .entry)) (now (body .entry)) (now (carry .entry)))) ⌝ }
+{
+    match pending {
+        Pending::Nothing => measure(lacing, body, 0, 0, streams, lens, 0, 0),
+        Pending::Dropped => measure(lacing, body, values, bytes, streams, lens, 0, 0),
+        Pending::Held(n) => {
+            let whole = n + bytes;
+            match packet_reader::read_packet(&carry[..whole], streams) {
+                PacketRead::Refused(why) => Lengths::Refused(why),
+                PacketRead::Samples(s) => {
+                    lens[0] = s;
+                    measure(lacing, body, values, bytes, streams, lens, 1, s)
+                }
+            }
+        }
+    }
+}

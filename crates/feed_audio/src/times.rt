@@ -1,0 +1,132 @@
+// 15 to 19, and the lists: when the packets of a page end, and how much of them is kept.
+ghost use mathlib.Core.Path.{_≡_};
+ghost use Prim.Native.Nat.{_-_, _<_, _^_};
+ghost use lib.ListN.{take};
+ghost use Rattle.granule.specs.Samples.{trimmedOf};
+ghost use Rattle.stream.specs.Page.{isLastPage};
+ghost use Rattle.stream.specs.Feed.{entries};
+ghost use Rattle.feed_audio.specs.Code.{countOf, measured, packetsBy, Measurable, Times, Room, Lists, countsBy};
+use super::packets;
+use super::packets::Lengths;
+use super::packets::Piece;
+use granule::Judged;
+use granule::Placed;
+use page_layout::PageHeader;
+use refusal::Refusal;
+use stream::Core;
+use stream::Counts;
+
+pub(crate) fn is_last(flags: u8) -> bool
+    ensures { λ r. ⌜ r ≡ isLastPage flags ⌝ }
+{
+    flags / 4 % 2 == 1
+}
+
+// 15 to 19; or how many packets there are, the sum of their lengths, and where they lie.
+pub(crate) enum Timed {
+    Packets(usize, u32, Placed),
+    Refused(Refusal),
+}
+
+pub(crate) fn time_page(
+    core: Core,
+    h: PageHeader,
+    first: Piece,
+    lacing: &[u8],
+    body: &[u8],
+    carry: &[u8],
+    lens: &mut [u32],
+) -> Timed
+    requires { ⌜ (Measurable (core .pending) (first .values) (first .bytes) (now lacing) (now body) (now carry) (now lens)) × (h .granule < 2 ^ 63) ⌝ }
+    ensures { λ r. ⌜ Times r (now (lens .exit)) core h (measured (countOf (core .streams)) (packetsBy (core .pending) (first .values) (first .bytes) (now (lacing .entry)) (now (body .entry)) (now (carry .entry)))) ⌝ }
+{
+    let pending = core.pending;
+    let position = core.position;
+    let last = is_last(h.flags);
+    let streams = packets::stream_count(core.streams);
+    match packets::measure_page(
+        pending,
+        first.values,
+        first.bytes,
+        lacing,
+        body,
+        carry,
+        streams,
+        lens,
+    ) {
+        Lengths::Refused(why) => Timed::Refused(why),
+        Lengths::All(count, d) => match granule::judge(position, core.preskip, h.granule, d, last) {
+            Judged::Refused(why) => Timed::Refused(why),
+            Judged::Placed(place) => Timed::Packets(count, d, place),
+        },
+    }
+}
+
+// The samples that are to skip after `d` others.
+fn skip_after(skip: u16, d: u32) -> u16
+    ensures { λ r. ⌜ r ≡ skip - d ⌝ }
+{
+    if skip as u32 <= d { 0 } else { skip - d as u16 }
+}
+
+fn wide(d: u32) -> u64
+    ensures { λ r. ⌜ r ≡ d ⌝ }
+{
+    d as u64
+}
+
+// Lists the packets of the first `n` lengths, the first beginning after position `from`: how many samples are then still to
+// skip.
+pub(crate) fn list_packets(
+    lens: &[u32],
+    n: usize,
+    from: u64,
+    skip: u16,
+    last: bool,
+    g: u64,
+    ends: &mut [u64],
+    sizes: &mut [u64],
+    kept: &mut [u64],
+) -> u16
+    requires { ⌜ Room n from (now lens) (now ends) (now sizes) (now kept) ⌝ }
+    ensures { λ r. ⌜ Lists r (now (ends .exit)) (now (sizes .exit)) (now (kept .exit)) skip (take n (now (lens .entry))) (entries skip last g from (take n (now (lens .entry)))) (now (ends .entry)) (now (sizes .entry)) (now (kept .entry)) ⌝ }
+{
+    let mut at = from;
+    let mut left = skip;
+    let mut i: usize = 0;
+    while i < n {
+        let d = lens[i];
+        let size = wide(d);
+        kept[i] = granule::kept(at, d, left, g, last);
+        at += size;
+        ends[i] = at;
+        sizes[i] = size;
+        left = skip_after(left, d);
+        i += 1;
+    }
+    left
+}
+
+// The page's own record.
+pub(crate) fn counts_of(
+    count: usize,
+    d: u32,
+    place: Placed,
+    skip: u16,
+    last: bool,
+    g: u64,
+) -> Counts
+    requires { ⌜ place .trimmed ≡ trimmedOf last g (place .from) d ⌝ }
+    ensures { λ r. ⌜ r ≡ countsBy count d place skip last g ⌝ }
+{
+    let samples = d as u64;
+    let kept = granule::kept(place.from, d, skip, g, last);
+    Counts {
+        packets: count as u64,
+        samples,
+        kept,
+        skipped: samples - kept - place.trimmed,
+        trimmed: place.trimmed,
+        hole: place.hole,
+    }
+}

@@ -1,0 +1,109 @@
+-- The page of the identification header, after 9 to 11: 12 and 13, and the reader that follows. Assumes nothing.
+use Prim.Native.Nat.{ℕ}
+use mathlib.Core.Path.{_≡_, refl, ap, _∙_}
+use mathlib.Core.Bool.{Bool, true, false, not, true≢false}
+use mathlib.Core.List.{[], _∷_}
+use mathlib.Core.Option.{Option, none, some}
+use native.Mathlib.Omega.{arith}
+use lib.ListN.{length}
+use Rattle.octets.specs.Pick.{pick}
+use Rattle.octets.specs.Octets.{Bytes, total}
+use Rattle.refusal.specs.declared.Refusal.{Refusal}
+use Rattle.refusal.specs.declared.Refusal.the-variants.{BadHead, BadMapping}
+use Rattle.refusal.specs.Checks.{firstOf}
+use Rattle.refusal.specs.Numbers.{numberOf}
+use Rattle.refusal.specs.Told.{gives, refuses, decided}
+use Rattle.refusal.proofs.Checks.{no-refusal}
+use Rattle.page_layout.specs.declared.PageHeader.{PageHeader}
+use Rattle.head_fields.specs.declared.Head.{Head}
+use Rattle.head_reader.specs.Fields.{headOf}
+use Rattle.head_fields.specs.Right.{rightMapping}
+use Rattle.head_reader.specs.Reading.{isHead, readChecks, readHead}
+use Rattle.stream.specs.declared.Phase.the-variants.{First, Comment}
+use Rattle.stream.specs.declared.Pending.the-variants.{Nothing}
+use Rattle.stream.specs.declared.Core.{Core}
+use Rattle.stream.specs.declared.Tally.{Tally}
+use Rattle.stream.specs.Page.{Page, pageWith}
+use Rattle.stream.specs.Readings.{Readings, readings}
+use Rattle.stream.specs.State.{nothing, State, isFirst, inHeaders}
+use Rattle.stream.specs.Packets.{join, seen}
+use Rattle.stream.specs.Rules.{lacingChecks, nextOn}
+use Rattle.stream.specs.Feed.{coreOf, view, Lent, skipOn, carryAfter, readerOf, FedIs}
+use Rattle.feed_lacing.specs.declared.Shape.the-variants.{Ends}
+use Rattle.feed_lacing.specs.Shape.{shapeOf}
+use Rattle.feed_header.specs.declared.HeaderFed.the-variants.{Accepted, Refused}
+use Rattle.feed_header.proofs.HeaderPages.{says-last}
+use Rattle.feed_header.proofs.Late.{lateIn, refused-early, refused-late, past-lacing, accepted}
+use Rattle.feed_header.specs.Header.{toldHeader, headerOn, headerFed, pageChecks}
+use Rattle.feed_header.specs.Code.{headerCore}
+
+module _ (crc : Bytes → ℕ) (core : Core) (tally : Tally) (m : Lent) (h : PageHeader) (lacing body : Bytes) (first : core .phase ≡ First) (none-left : core .pending ≡ Nothing) where
+  abbrev t : State
+  t = view core (m .carry)
+
+  abbrev p : Page
+  p = pageWith h lacing body
+
+  abbrev R : Readings
+  R = readings crc
+
+  pub inside : inHeaders (core .phase) ≡ true
+  inside = rw first
+
+  pub head-early : (n : Refusal) → firstOf (lacingChecks t p (seen t p)) ≡ some n
+      → FedIs (headerOn (readings crc) (readerOf core tally) m (pageWith h lacing body)) (toldHeader (Refused n)) (m .carry) (m .ends) (m .sizes) (m .kept)
+  unfolding headerFed
+  head-early n e = refused-early R t p (seen t p) (record { core = core; tally = tally }) m n e
+
+  module _ (sums : total lacing ≡ length body) (e : shapeOf lacing ≡ Ends) (clear : firstOf (lacingChecks t p (seen t p)) ≡ none) where
+    is-seen : seen t p ≡ record { packets = body ∷ []; left = nothing; completes = true }
+    unfolding seen join
+    is-seen = rw (none-left, says-last p sums e .0, says-last p sums e .1)
+
+    pub found : firstOf (pageChecks R t p (seen t p)) ≡ firstOf (readChecks body)
+    unfolding firstOf readings
+    found = past-lacing R t p (seen t p) clear ∙ rw (is-seen, first)
+
+    next-core : headerCore core h Comment Nothing (headOf body .streams) (headOf body .preskip) ≡ coreOf (nextOn R t p (seen t p))
+    unfolding nextOn readings
+    next-core = rw (is-seen, first)
+
+    skip-after : headOf body .preskip ≡ skipOn R (tally .skip) t p (seen t p)
+    unfolding skipOn nextOn readings
+    skip-after = rw (is-seen, first)
+
+    carries : m .carry ≡ carryAfter none t p (m .carry)
+    unfolding carryAfter
+    carries = rw (first, none-left, says-last p sums e .1)
+
+    -- a refusal by 12 or 13
+    pub head-refused : (why : Refusal) → readHead body ≡ refuses (numberOf why)
+        → FedIs (headerOn (readings crc) (readerOf core tally) m (pageWith h lacing body)) (toldHeader (Refused why)) (m .carry) (m .ends) (m .sizes) (m .kept)
+    unfolding headerFed readHead firstOf
+    head-refused why r =
+        refused-late R t p (seen t p) (record { core = core; tally = tally }) m (firstOf (pageChecks R t p (seen t p))) (headOf body) why (m .carry)
+        (ap (λ (v : Option Refusal). decided v (headOf body)) found ∙ r)
+        (ap lateIn found ∙ by (not (isHead body)) (not (rightMapping (headOf body))) r) (rw (first, none-left))
+      where
+        by : (a b : Bool) → decided (pick a (some BadHead) (pick b (some BadMapping) none)) (headOf body) ≡ refuses (numberOf why)
+            → lateIn (pick a (some BadHead) (pick b (some BadMapping) none)) ≡ true
+        by true b k = refl
+        by false true k = refl
+        by false false k = let z : _≡_ {A = ℕ} 0 1 = cc in absurd (omega arith)
+
+    pub head-accepted : (head : Head) → readHead body ≡ gives head
+        → FedIs (headerOn (readings crc) (readerOf core tally) m (pageWith h lacing body)) (toldHeader (Accepted (headerCore core h Comment Nothing (head .streams) (head .preskip)) (record { skip = head .preskip }))) (m .carry) (m .ends) (m .sizes) (m .kept)
+    unfolding headerFed readHead
+    head-accepted head r =
+        let k = no-refusal (firstOf (readChecks body)) (headOf body) head r in
+        accepted R t p (seen t p) (record { core = core; tally = tally }) m inside (firstOf (pageChecks R t p (seen t p))) _ _ (m .carry) (found ∙ k .0) (next head (k .1)) (skips head (k .1))
+        carries
+      where
+        next : (head : Head) → headOf body ≡ head → headerCore core h Comment Nothing (head .streams) (head .preskip) ≡ coreOf (nextOn R t p (seen t p))
+        next head q = rw (← q) (next-core)
+
+        skips : (head : Head) → headOf body ≡ head → head .preskip ≡ skipOn R (tally .skip) t p (seen t p)
+        skips head q = rw (← q) (skip-after)
+
+pub in-first : (core : Core) → core .phase ≡ First → isFirst (core .phase) ≡ false → ⊥
+in-first core q e = true≢false (rw q at e)

@@ -1,0 +1,91 @@
+-- What 9 to 14 leave, by what they found. Assumes nothing.
+use Prim.Native.Nat.{ℕ}
+use mathlib.Core.Path.{_≡_, refl, sym, ap, _∙_}
+use mathlib.Core.Bool.{Bool, true, false, true≢false}
+use mathlib.Core.List.{[]}
+use mathlib.Core.Option.{Option, none, some}
+use Rattle.octets.specs.Pick.{pick}
+use Rattle.octets.specs.Octets.{Bytes, total}
+use Rattle.refusal.specs.declared.Refusal.{Refusal}
+use Rattle.refusal.specs.declared.Refusal.the-variants.{PacketTooLong, HeaderShape, WrongGranule}
+use Rattle.refusal.specs.Checks.{firstOf}
+use Rattle.refusal.specs.Numbers.{numberOf}
+use Rattle.refusal.specs.Told.{refuses, decided, numberIn}
+use Rattle.refusal.proofs.Checks.{first-of-append}
+use Rattle.granule.specs.Samples.{tally, keptOf, skippedOf, trimmedOf}
+use Rattle.stream.specs.declared.Core.{Core}
+use Rattle.stream.specs.declared.Tally.{Tally}
+use Rattle.stream.specs.Page.{Page, granuleOf, whole, rest}
+use Rattle.stream.specs.Readings.{Readings}
+use Rattle.stream.specs.State.{State, inHeaders}
+use Rattle.stream.specs.Packets.{Seen, isLong, audioPackets, lengthsOf}
+use Rattle.stream.specs.Rules.{wrongShape, wrongGranule, lacingChecks, headerChecks, nextOn}
+use Rattle.stream.specs.Feed.{Reader as Known, coreOf, entries, entriesOn, countsOn, skipOn, Lent, firstPiece, appended, isLate, carryAfter, fedBy, noCounts, FedIs}
+use Rattle.feed_header.specs.declared.HeaderFed.the-variants.{Accepted, Refused}
+use Rattle.feed_header.specs.Header.{toldHeader, pageChecks}
+
+-- ---- a refusal of 9 to 11
+
+abbrev pub lateIn : Option Refusal → Bool
+lateIn none = false
+lateIn (some n) = isLate n
+
+-- ---- after 9 to 11
+
+module _ (R : Readings) (t : State) (p : Page) (x : Seen) where
+  pub lacing-refuses : (n : Refusal) → firstOf (lacingChecks t p x) ≡ some n → firstOf (pageChecks R t p x) ≡ some n
+  lacing-refuses n e =
+      first-of-append (lacingChecks t p x) (headerChecks R t x) ∙ rw e
+
+  pub past-lacing : firstOf (lacingChecks t p x) ≡ none
+      → firstOf (pageChecks R t p x) ≡ firstOf (headerChecks R t x)
+  past-lacing e =
+      first-of-append (lacingChecks t p x) (headerChecks R t x) ∙ rw e
+
+  lacing-early : lateIn (firstOf (lacingChecks t p x)) ≡ false
+  unfolding firstOf
+  lacing-early = by (isLong (t .carried) (p .lacing)) (wrongShape (t .phase) p x) (wrongGranule (t .phase) (granuleOf p) (x .completes))
+    where
+      by : (a b c : Bool) → lateIn (pick a (some PacketTooLong) (pick b (some HeaderShape) (pick c (some WrongGranule) none))) ≡ false
+      by true b c = refl
+      by false true c = refl
+      by false false true = refl
+      by false false false = refl
+
+  pub early : (n : Refusal) → firstOf (lacingChecks t p x) ≡ some n → isLate n ≡ false
+  early n e = sym (ap lateIn e) ∙ lacing-early
+
+  module _ (r : Known) (m : Lent) where
+    -- a refusal before 12: all stays
+    pub refused-early : (n : Refusal) → firstOf (lacingChecks t p x) ≡ some n
+        → FedIs (fedBy (firstOf (pageChecks R t p x)) R r m t p x) (toldHeader (Refused n)) (m .carry) (m .ends) (m .sizes) (m .kept)
+    unfolding carryAfter
+    refused-early n e = rw (lacing-refuses n e) (record { told = refl; held = rw (early n e); ended = refl; sized = refl; keeps = refl })
+
+    -- a refusal by one of 12 to 14: the piece is in the carry buffer
+    pub refused-late : (v : Option Refusal) {A : Type 0} (a : A) (why : Refusal) (carry : Bytes) → decided v a ≡ refuses (numberOf why)
+        → lateIn v ≡ true → carry ≡ appended (t .phase) (t .carried) (firstPiece (whole p) (rest p)) (m .carry)
+        → FedIs (fedBy v R r m t p x) (toldHeader (Refused why)) carry (m .ends) (m .sizes) (m .kept)
+    unfolding carryAfter
+    refused-late none a why carry e l c = absurd (true≢false (sym l))
+    refused-late (some n) a why carry e l c = record { told = ap refuses (sym (ap numberIn e)); held = rw l c; ended = refl; sized = refl; keeps = refl }
+
+    -- an accepted header page
+    module _ (inside : inHeaders (t .phase) ≡ true) where
+      no-lengths : lengthsOf R t x ≡ []
+      unfolding lengthsOf audioPackets
+      no-lengths = rw inside
+
+      no-counts : (skip : ℕ) → countsOn R skip t p x ≡ noCounts
+      unfolding countsOn total keptOf skippedOf trimmedOf tally
+      no-counts skip = rw (no-lengths, inside)
+
+      no-entries : (skip : ℕ) → entriesOn R skip t p x ≡ []
+      unfolding entriesOn entries
+      no-entries skip = rw no-lengths
+
+      pub accepted : (v : Option Refusal) (core : Core) (y : Tally) (carry : Bytes) → v ≡ none → core ≡ coreOf (nextOn R t p x)
+          → y .skip ≡ skipOn R (r .tally .skip) t p x → carry ≡ carryAfter none t p (m .carry)
+          → FedIs (fedBy v R r m t p x) (toldHeader (Accepted core y)) carry (m .ends) (m .sizes) (m .kept)
+      accepted v core y carry e k s c =
+          rw (e, no-counts (r .tally .skip), no-entries (r .tally .skip), ← k, ← s) (record { told = refl; held = c; ended = refl; sized = refl; keeps = refl })

@@ -1,0 +1,140 @@
+// 9, and the shape that 10 asks of a header page, by the lacing values of a page.
+ghost use mathlib.Core.Path.{_≡_};
+ghost use mathlib.Core.Bool.{true};
+ghost use Prim.Native.Nat.{_≤_};
+ghost use lib.ListN.{length, drop};
+ghost use Rattle.octets.specs.Octets.{Bytes};
+ghost use Rattle.stream.specs.Packets.{afterFirst, isLong};
+ghost use Rattle.stream.specs.Feed.{carriedIn};
+ghost use Rattle.feed_lacing.specs.declared.Scan.the-variants.{Rest};
+ghost use Rattle.feed_lacing.specs.Scan.{scanOf, scanBy};
+ghost use Rattle.feed_lacing.specs.Shape.{shapeOf};
+use stream::Pending;
+
+// 9, or how many bytes the page's last, unfinished packet has, the held ones included.
+pub enum Scan {
+    TooLong,
+    Rest(usize),
+}
+
+// What a page is of one packet: its last piece and nothing else, a piece that goes on and nothing else, or something else.
+pub enum Shape {
+    Ends,
+    GoesOn,
+    Other,
+}
+
+const PACKET_MAX: usize = 61440;
+
+// The values from `from` on, `held` bytes of the first packet being held already.
+fn scan_from(lacing: &[u8], from: usize, held: usize) -> Scan
+    requires { ⌜ from ≤ length (now lacing) ⌝ }
+    ensures { λ r. ⌜ r ≡ scanOf held (drop from (now (lacing .entry))) ⌝ }
+{
+    let mut bytes = held;
+    let mut i = from;
+    while i < lacing.len() {
+        if bytes > PACKET_MAX {
+            return Scan::TooLong;
+        }
+        let v = octets::wide(lacing[i]);
+        bytes += v;
+        if v < 255 {
+            if bytes > PACKET_MAX {
+                return Scan::TooLong;
+            }
+            bytes = 0;
+        }
+        i += 1;
+    }
+    if bytes > PACKET_MAX {
+        Scan::TooLong
+    } else {
+        Scan::Rest(bytes)
+    }
+}
+
+// The place after the first value that ends a packet.
+fn after_first(lacing: &[u8]) -> usize
+    ensures { λ r. ⌜ (drop r (now (lacing .entry)) ≡ afterFirst (now (lacing .entry))) × (r ≤ length (now (lacing .entry))) ⌝ }
+{
+    let mut i = 0;
+    while i < lacing.len() {
+        if lacing[i] < 255 {
+            return i + 1;
+        }
+        i += 1;
+    }
+    i
+}
+
+// Whether no packet of these values is too long and none goes on, told quickly: by their sum and the last of them.
+fn is_quick(lacing: &[u8]) -> bool
+    ensures { λ r. ⌜ (r ≡ true → scanOf 0 (now (lacing .entry)) ≡ Rest 0) ⌝ }
+{
+    let n = lacing.len();
+    if n == 0 {
+        return false;
+    }
+    if n > 255 {
+        return false;
+    }
+    if lacing[n - 1] == 255 {
+        return false;
+    }
+    page_lacing::sum_of(lacing) <= PACKET_MAX
+}
+
+// The packets of a page that continues none.
+fn scan_new(lacing: &[u8]) -> Scan
+    ensures { λ r. ⌜ r ≡ scanOf 0 (now (lacing .entry)) ⌝ }
+{
+    if is_quick(lacing) {
+        return Scan::Rest(0);
+    }
+    scan_from(lacing, 0, 0)
+}
+
+// The page's packets against 9, by what is pending. A dropped packet is not measured.
+pub fn scan_page(pending: Pending, lacing: &[u8]) -> Scan
+    ensures { λ r. ⌜ r ≡ scanBy pending (now (lacing .entry)) ⌝ }
+{
+    match pending {
+        Pending::Nothing => scan_new(lacing),
+        Pending::Held(n) => scan_from(lacing, 0, n),
+        Pending::Dropped => {
+            let from = after_first(lacing);
+            scan_from(lacing, from, 0)
+        }
+    }
+}
+
+// 9
+pub fn is_long(pending: Pending, lacing: &[u8]) -> bool
+    ensures { λ r. ⌜ ((carry : Bytes) → r ≡ isLong (carriedIn pending carry) (now (lacing .entry))) ⌝ }
+{
+    match scan_page(pending, lacing) {
+        Scan::TooLong => true,
+        Scan::Rest(_) => false,
+    }
+}
+
+// Whether the values are those of one piece, and whether that ends a packet.
+pub fn shape_of(lacing: &[u8]) -> Shape
+    ensures { λ r. ⌜ r ≡ shapeOf (now (lacing .entry)) ⌝ }
+{
+    let mut i = 0;
+    while i < lacing.len() {
+        if lacing[i] < 255 {
+            if i + 1 < lacing.len() {
+                return Shape::Other;
+            }
+            return Shape::Ends;
+        }
+        i += 1;
+    }
+    if i == 0 {
+        return Shape::Other;
+    }
+    Shape::GoesOn
+}

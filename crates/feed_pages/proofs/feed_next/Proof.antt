@@ -1,0 +1,106 @@
+-- `feed_pages::feed_next` meets its contract. Assumes nothing.
+use Prim.Native.Nat.{ℕ, _≤_, _<_}
+use mathlib.Core.Path.{_≡_, sym, ap, _∙_}
+use mathlib.Core.Bool.{false}
+use mathlib.Core.Option.{some}
+use native.Mathlib.Omega.{arith}
+use borrow.Author.Needs.{needs}
+use denote.Ref.{now}
+use lib.ListN.{length}
+use Rattle.stream.specs.Feed.{Lent, lentOf}
+use Rattle.reader.specs.Answers.{toldFed}
+use Rattle.feed_pages.specs.Run.{isFull}
+use Rattle.page_end.specs.End.{endAt, foundEnd}
+use Rattle.page_end.proofs.Ends.{end-inside}
+use Rattle.feed_pages.proofs.Feeding.{turn-full, turn-cut, turn-told, few-packets}
+use Rattle.feed_pages.proofs.feed_next.Statement.{statement}
+use Rattle.feed_pages.proofs.feed_next.Tie as tie
+
+-- what is lent
+abbrev lent : tie.Start → Lent
+lent s = lentOf (now (s .args .carry)) (now (s .args .ends)) (now (s .args .sizes)) (now (s .args .kept))
+
+returns : tie.Need-returns
+unfolding isFull
+returns c =
+    let s = c .before .before .before .before .before .before .before .before .before in
+    turn-full _ (now (s .args .buffer)) (s .args .p) (lent s) (sym (c .before .is-full .ensures) ∙ c .if1 .taken)
+
+-- the place where the end of the page is known
+module _ (c : tie.After-known-told) where
+  abbrev begun : tie.Start
+  begun = c .before .before .before .before .before .before .before .before .before .before .before .before .before
+
+  abbrev end : ℕ
+  end = c .before .end .given .0 .0
+
+  places : isFull (begun .args .p .packets) (lent begun) ≡ false
+  unfolding isFull
+  places = sym (c .before .before .before .before .before .is-full .ensures) ∙ c .before .before .before .before .if1 .left
+
+  ends-at : endAt (now (begun .args .buffer)) (begun .args .p .bytes) ≡ some end
+  ends-at = sym (c .before .before .before .end-at .ensures) ∙ ap foundEnd (c .before .end .given .1)
+
+  inside : (begun .args .p .bytes < end) × (end ≤ length (now (begun .args .buffer)))
+  inside = end-inside (now (begun .args .buffer)) (begun .args .p .bytes) end ends-at
+
+sub-feed-with : tie.Need-sub-feed-with
+sub-feed-with c = omega (arith, inside c .0)
+
+part-feed-with-start : tie.Need-part-feed-with-start
+part-feed-with-start c = omega (arith, inside c .0, inside c .1)
+
+part-feed-with-end : tie.Need-part-feed-with-end
+part-feed-with-end c = omega (arith, inside c .0, inside c .1)
+
+add-t50 : tie.Need-add-t50
+add-t50 c =
+    let known = c .before .before .before .before .before .before .before .before .before .before .before .before .before .before .before .before .before .before in
+    let few = begun known .pre .few in
+    let small = inside known in
+    search needs
+
+add-t52 : tie.Need-add-t52
+add-t52 c =
+    let known = c .before .before .before .before .before .before .before .before .before .before .before .before .before .before .before .before .before .before in
+    let s = begun known in
+    let call = c .before .before .before .before .before .before .before .before .before .before .before .before in
+    let few = few-packets _ (now (s .args .buffer)) (s .args .p) (lent s) (places known) (end known) (ends-at known) (call .feed-with .ensures)
+    (record { below = λ i. known .before .before .before .before .before .before .before .before .before .before .before .before .shared-slice-known .given i .fits }) (s .pre) (ap toldFed (c .before .before .next .given .1)) in
+    let room = s .pre .ends in
+    search needs
+
+returns-2 : tie.Need-returns-2
+unfolding isFull
+returns-2 c =
+    let s = c .before .before .before .before .before .before .before .before .before .before .before .before in
+    turn-cut _ (now (s .args .buffer)) (s .args .p) (lent s)
+    (sym (c .before .before .before .before .is-full .ensures) ∙ c .before .before .before .if1 .left) (sym (c .before .before .end-at .ensures) ∙ ap foundEnd (c .enum-told .given .1))
+
+same-length : tie.Need-same-length
+same-length c = c .before .before .before .before .before .before .before .before .before .before .before .before .carry .given
+
+returns-3 : tie.Need-returns-3
+returns-3 c =
+    let call = c .before .before .before .before .before .before .before .before .before .before .before .before .before in
+    let known = call .before .before .before .before .before .before in
+    let s = begun known in
+    rw (c .added-to .ensures)
+    (turn-told _ (now (s .args .buffer)) (s .args .p) (lent s) (places known) (end known) (ends-at known) (call .feed-with .ensures) (ap toldFed (c .before .before .before .next .given .1)))
+
+returns-4 : tie.Need-returns-4
+returns-4 c =
+    let call = c .before .before .before .before .before .before .before .before .before .before .before in
+    let known = call .before .before .before .before .before .before in
+    let s = begun known in
+    turn-told _ (now (s .args .buffer)) (s .args .p) (lent s) (places known) (end known) (ends-at known) (call .feed-with .ensures) (ap toldFed (c .before .why .given .1))
+
+pub feed-next-spec : {M : Type 1} → statement M
+feed-next-spec =
+    tie.close
+    (tie.spec
+    (λ c. search needs) (λ c. search needs) (λ c. search needs) (λ c κs. search needs) returns (λ c κs. search needs) (λ c. search needs) (λ c. search needs)
+    sub-feed-with part-feed-with-start part-feed-with-end (λ c. search needs) (λ c. search needs) (λ c. search needs) (λ c. search needs)
+    (λ c. search needs) (λ c. search needs) (λ c. search needs) (λ c. search needs) (λ c. search needs) (λ c. search needs) (λ c. search needs) (λ c. search needs)
+    (λ c κs. search needs) (λ c. search needs) add-t50 add-t52 (λ c κs. search needs) (λ c. search needs) returns-2 same-length (λ c. search needs) (λ c. search needs)
+    (λ c. search needs) returns-3 (λ c. search needs) (λ c. search needs) (λ c. search needs) (λ c. search needs) returns-4)

@@ -1,0 +1,125 @@
+-- The pages of a buffer fed one by one, each with the parts of the three lists past the places already filled. A run stops at a
+-- refusal, at a page that the buffer's end cuts, or where fewer than 255 places are left (document 01, "Refusals by number",
+-- for each page). Assumes nothing.
+use Prim.Native.Nat.{ℕ, zero, suc, _+_, _-_, _%_, _^_, _≤_}
+use mathlib.Core.Bool.{Bool, _||_}
+use mathlib.Core.List.{_++_}
+use mathlib.Core.Option.{Option, none, some}
+use lib.Dec.{ltb}
+use lib.ListN.{length, take, drop}
+use Rattle.octets.specs.Pick.{pick}
+use Rattle.octets.specs.Octets.{Bytes}
+use Rattle.refusal.specs.Told.{Told, gives, refuses}
+use Rattle.page_end.specs.End.{endAt}
+use Rattle.stream.specs.declared.Counts.{Counts}
+use Rattle.stream.specs.Readings.{Readings}
+use Rattle.stream.specs.Feed.{Reader, Lent, listMax, Taken, Fed, feed}
+use Rattle.feed_pages.specs.declared.Sums.{Sums}
+
+-- ---- the lent memory
+
+-- fewer than 255 places are left where n are filled
+unfoldable pub isFull : ℕ → Lent → Bool
+isFull n m =
+    ltb (length (m .ends) - n) listMax || (ltb (length (m .sizes) - n) listMax || ltb (length (m .kept) - n) listMax)
+
+-- the lists past the n places filled
+abbrev pub past : ℕ → Lent → Lent
+past n m = record { carry = m .carry; ends = drop n (m .ends); sizes = drop n (m .sizes); kept = drop n (m .kept) }
+
+-- the whole lists again, e being what a feeding made of those parts
+abbrev pub whole : ℕ → Lent → Lent → Lent
+whole n m e = record {
+  carry = e .carry;
+  ends = take n (m .ends) ++ e .ends;
+  sizes = take n (m .sizes) ++ e .sizes;
+  kept = take n (m .kept) ++ e .kept;
+}
+
+-- ---- one page
+
+-- how far a run has come: the bytes and the number of the pages accepted, the places filled, and the pages' records added up
+pub record Reached : Type 0 where
+  pub reader : Reader
+  pub bytes : ℕ
+  pub pages : ℕ
+  pub packets : ℕ
+  pub sums : Sums
+
+-- modulo 2^64
+abbrev pub added : Sums → Counts → Sums
+added s c = record {
+  samples = (s .samples + c .samples) % 2 ^ 64;
+  kept = (s .kept + c .kept) % 2 ^ 64;
+  skipped = (s .skipped + c .skipped) % 2 ^ 64;
+  trimmed = (s .trimmed + c .trimmed) % 2 ^ 64;
+  hole = (s .hole + c .hole) % 2 ^ 64;
+}
+
+pub data Why : Type 0 where
+  refused : ℕ → Why
+  cut full : Why
+
+pub data Turn : Type 0 where
+  goes : Reached → Lent → Turn
+  stops : Why → Lent → Turn
+
+-- the page that ends at e was fed
+abbrev pub after : Reached → ℕ → Told Taken → Lent → Turn
+after a e (gives t) m = goes (record {
+  reader = t .reader;
+  bytes = e;
+  pages = a .pages + 1;
+  packets = a .packets + t .counts .packets;
+  sums = added (a .sums) (t .counts);
+}) m
+after a e (refuses n) m = stops (refused n) m
+
+abbrev pub fedTo : Reached → Lent → ℕ → Fed → Turn
+fedTo a m e f = after a e (f .told) (whole (a .packets) m (f .lent))
+
+abbrev pub turnTo : Readings → Bytes → Reached → Lent → Option ℕ → Turn
+turnTo R b a m none = stops cut m
+turnTo R b a m (some e) = fedTo a m e (feed R (a .reader) (past (a .packets) m) (take (e - a .bytes) (drop (a .bytes) b)))
+
+unfoldable pub turn : Readings → Bytes → Reached → Lent → Turn
+turn R b a m = pick (isFull (a .packets) m) (stops full m) (turnTo R b a m (endAt b (a .bytes)))
+
+-- ---- the pages, one by one
+
+pub record Ended : Type 0 where
+  pub reached : Reached
+  pub why : Why
+  pub lent : Lent
+
+abbrev pub follow : (Reached → Lent → Ended) → Reached → Turn → Ended
+follow on a (goes next m) = on next m
+follow on a (stops why m) = record { reached = a; why = why; lent = m }
+
+-- at most n pages
+unfoldable pub runs : ℕ → Readings → Bytes → Reached → Lent → Ended
+runs zero R b a m = record { reached = a; why = cut; lent = m }
+runs (suc n) R b a m = follow (runs n R b) a (turn R b a m)
+
+abbrev pub started : Reader → Reached
+started r = record {
+  reader = r;
+  bytes = 0;
+  pages = 0;
+  packets = 0;
+  sums = record { samples = 0; kept = 0; skipped = 0; trimmed = 0; hole = 0 };
+}
+
+-- a page has a byte at least, so that there are no more pages than bytes
+unfoldable pub feedPages : Readings → Reader → Lent → Bytes → Ended
+feedPages R r m b = runs (suc (length b)) R b (started r) m
+
+-- ---- what holds of every run
+
+-- it is within its buffer b and its lists, and has no more pages than bytes
+pub record Fits (a : Reached) (b : Bytes) (m : Lent) : Type 0 where
+  pub inside : a .bytes ≤ length b
+  pub few : a .pages ≤ a .bytes
+  pub ends : a .packets ≤ length (m .ends)
+  pub sizes : a .packets ≤ length (m .sizes)
+  pub kept : a .packets ≤ length (m .kept)

@@ -1,0 +1,49 @@
+// The core and tally that a reader of a stream begins with: of a stream's first page, or opened part way.
+ghost use mathlib.Core.Path.{_≡_};
+ghost use Rattle.stream.specs.Feed.{start, openPartWay};
+ghost use Rattle.feed_start.specs.Answers.{toldOpened};
+use granule::Position;
+use head_fields::Head;
+use refusal::Refusal;
+use stream::Core;
+use stream::Pending;
+use stream::Phase;
+use stream::Tally;
+
+pub enum CoreOpened {
+    At(Core, Tally),
+    Refused(Refusal),
+}
+
+pub fn start_core() -> Core
+    ensures { λ r. ⌜ r ≡ start .core ⌝ }
+{
+    Core {
+        phase: Phase::First,
+        pending: Pending::Nothing,
+        position: Position::Unset,
+        serial: 0,
+        next: 0,
+        streams: 0,
+        preskip: 0,
+    }
+}
+
+// Opened part way, in a stream with this header. 23: fields that a reading would refuse.
+pub fn open_core(head: Head) -> CoreOpened
+    ensures { λ r. ⌜ toldOpened r ≡ openPartWay head ⌝ }
+{
+    if !head_fields::right_head(head) {
+        return CoreOpened::Refused(Refusal::UnfitFields);
+    }
+    let core = Core {
+        phase: Phase::Opened,
+        pending: Pending::Nothing,
+        position: Position::Joined,
+        serial: 0,
+        next: 0,
+        streams: head.streams,
+        preskip: head.preskip,
+    };
+    CoreOpened::At(core, Tally { skip: 0 })
+}

@@ -1,0 +1,56 @@
+-- `head_reader::is_head` meets its contract: the first test that fails decides, and the length last. Assumes nothing.
+use mathlib.Core.Path.{sym, ap, ap₂, _∙_}
+use Prim.Native.Nat.{ℕ, _+_}
+use borrow.Author.Needs.{needs}
+use borrow.Author.Tests.{not-true, not-false}
+use denote.Ref.{now}
+use lib.Dec.{eqb}
+use lib.ListN.{length}
+use Rattle.octets.proofs.Tests.{equals, unequal}
+use Rattle.head_fields.specs.Right.{tableLength}
+use Rattle.head_reader.proofs.Places.{no-signature, other-version, short-head, length-decides}
+use Rattle.head_reader.proofs.is_head.Statement.{statement}
+use Rattle.head_reader.proofs.is_head.Tie as tie
+
+returns : tie.Need-returns
+returns c =
+    let call = c .before .begins-with in
+    sym (no-signature (now (c .before .before .before .before .args .b)) (sym (call .ensures) ∙ not-true (call .result) (c .if1 .taken)))
+
+returns-2 : tie.Need-returns-2
+returns-2 c =
+    let first = c .before .before in
+    let call = first .before .begins-with in
+    sym
+    (other-version (now (first .before .before .before .before .args .b)) (sym (call .ensures) ∙ not-false (call .result) (first .if1 .left))
+    (unequal (c .before .byte-at .ensures) (c .if2 .taken)))
+
+returns-3 : tie.Need-returns-3
+returns-3 c =
+    let second = c .before in
+    let first = second .before .before in
+    let call = first .before .begins-with in
+    sym
+    (short-head (now (first .before .before .before .before .args .b)) (sym (call .ensures) ∙ not-false (call .result) (first .if1 .left))
+    (equals (second .before .byte-at .ensures) (second .if2 .left)) (c .if3 .taken))
+
+returns-4 : tie.Need-returns-4
+returns-4 c =
+    let channels = c .before in
+    let family = channels .before in
+    let third = family .before in
+    let second = third .before in
+    let first = second .before .before in
+    let call = first .before .begins-with in
+    let b = now (first .before .before .before .before .args .b) in
+    ap (λ (n : ℕ). eqb (length b) (19 + n)) (c .table-length .ensures .0 ∙ ap₂ tableLength (family .byte-at2 .ensures) (channels .byte-at3 .ensures))
+    ∙ sym
+    (length-decides b (sym (call .ensures) ∙ not-false (call .result) (first .if1 .left))
+    (equals (second .before .byte-at .ensures) (second .if2 .left)) (third .if3 .left))
+
+pub is-head-spec : {M : Type 1} → statement M
+is-head-spec =
+    tie.close
+    (tie.spec
+    (λ c. search needs) (λ c κs. search needs) returns (λ c κs. search needs) returns-2
+    returns-3 (λ c κs. search needs) (λ c κs. search needs) (λ c κs. search needs) (λ c. search needs) returns-4)

@@ -1,0 +1,59 @@
+-- Reading an identification header (document 01, refusals 12 and 13). 12 comes before 13, with the family byte as it stands.
+-- Assumes nothing.
+use Prim.Native.Nat.{_+_}
+use mathlib.Core.Path.{_≡_}
+use mathlib.Core.Bool.{Bool, not, _&&_}
+use mathlib.Core.List.{List, [], _∷_}
+use lib.Dec.{leb, eqb}
+use lib.IntN.{pos}
+use lib.ListN.{length, getD, replicate}
+use Rattle.octets.specs.Octets.{Bytes, begins}
+use Rattle.refusal.specs.declared.Refusal.the-variants.{BadHead, BadMapping}
+use Rattle.refusal.specs.Checks.{Check, _when_, firstOf}
+use Rattle.refusal.specs.Told.{Told, gives, refuses, decided}
+use Rattle.refusal.specs.Numbers.{numberOf}
+use Rattle.head_fields.specs.declared.Head.{Head}
+use Rattle.head_reader.specs.declared.Verdict.{Verdict}
+use Rattle.head_reader.specs.declared.Verdict.the-variants.{Right, Refused}
+use Rattle.head_reader.specs.declared.HeadRead.{HeadRead}
+use Rattle.head_reader.specs.Fields.{signature, headOf}
+use Rattle.head_fields.specs.Right.{rightVersion, tableLength, rightMapping}
+
+-- signature, version and length are right
+unfoldable pub isHead : Bytes → Bool
+isHead b =
+    begins signature b
+    && (rightVersion (getD b 8 0) && (leb 19 (length b) && eqb (length b) (19 + tableLength (getD b 18 0) (getD b 9 0))))
+
+abbrev pub readChecks : Bytes → List Check
+readChecks b = BadHead when not (isHead b) ∷ BadMapping when not (rightMapping (headOf b)) ∷ []
+
+unfoldable pub readHead : Bytes → Told Head
+readHead b = decided (firstOf (readChecks b)) (headOf b)
+
+-- the record under a refusal
+abbrev pub noHead : Head
+noHead = record {
+  version = 0;
+  channels = 0;
+  preskip = 0;
+  rate = 0;
+  gain = pos 0;
+  family = 0;
+  streams = 0;
+  coupled = 0;
+  mapping = replicate 255 0;
+}
+
+-- what the code's answer tells
+abbrev pub toldBy : Verdict → Head → Told Head
+toldBy Right h = gives h
+toldBy (Refused r) h = refuses (numberOf r)
+
+abbrev pub headIn : Told Head → Head
+headIn (gives h) = h
+headIn (refuses n) = noHead
+
+pub record HeadIs (b : Bytes) (r : HeadRead) : Type 0 where
+  pub told : toldBy (r .verdict) (r .head) ≡ readHead b
+  pub head : r .head ≡ headIn (readHead b)

@@ -1,0 +1,129 @@
+// Reading the identification header of an Ogg Opus stream (RFC 7845, 5.1).
+ghost use mathlib.Core.Path.{_≡_};
+ghost use Rattle.head_reader.specs.Fields.{streamsOf, coupledOf, indicesOf, places, headOf};
+ghost use Rattle.head_reader.specs.Reading.{isHead, noHead, HeadIs};
+use head_fields::Head;
+use refusal::Refusal;
+
+pub enum Verdict {
+    Right,
+    Refused(Refusal),
+}
+
+// The record holds an array, so it stands beside the verdict. Under a refusal it is all zeros.
+pub struct HeadRead {
+    pub verdict: Verdict,
+    pub head: Head,
+}
+
+// The mapping's 255 places: the indices of the table, or those of family 0, and zeros.
+fn mapping_of(b: &[u8]) -> [u8; 255]
+    ensures { λ r. ⌜ r ≡ places (indicesOf (now (b .entry))) ⌝ }
+{
+    let mut mapping = [0u8; 255];
+    let channels = octets::wide(octets::byte_at(b, 9));
+    let family = octets::byte_at(b, 18);
+    if family != 0 {
+        octets::copy_at(&mut mapping, 0, octets::part_of(b, 21, channels));
+        return mapping;
+    }
+    if channels > 1 {
+        mapping[1] = 1;
+    }
+    mapping
+}
+
+fn streams_of(b: &[u8]) -> u8
+    ensures { λ r. ⌜ r ≡ streamsOf (now (b .entry)) ⌝ }
+{
+    if octets::byte_at(b, 18) != 0 {
+        return octets::byte_at(b, 19);
+    }
+    1
+}
+
+fn coupled_of(b: &[u8]) -> u8
+    ensures { λ r. ⌜ r ≡ coupledOf (now (b .entry)) ⌝ }
+{
+    if octets::byte_at(b, 18) != 0 {
+        return octets::byte_at(b, 20);
+    }
+    let channels = octets::byte_at(b, 9);
+    if channels == 0 {
+        return 0;
+    }
+    channels - 1
+}
+
+fn head_of(b: &[u8]) -> Head
+    ensures { λ r. ⌜ r ≡ headOf (now (b .entry)) ⌝ }
+{
+    let gain = number_signed::signed16(number_reader::number16(b, 16));
+    let mapping = mapping_of(b);
+    Head {
+        version: octets::byte_at(b, 8),
+        channels: octets::byte_at(b, 9),
+        preskip: number_reader::number16(b, 10),
+        rate: number_reader::number32(b, 12),
+        gain,
+        family: octets::byte_at(b, 18),
+        streams: streams_of(b),
+        coupled: coupled_of(b),
+        mapping,
+    }
+}
+
+// Signature, version and length are right.
+fn is_head(b: &[u8]) -> bool
+    ensures { λ r. ⌜ r ≡ isHead (now (b .entry)) ⌝ }
+{
+    if !octets::begins_with(b, b"OpusHead") {
+        return false;
+    }
+    if octets::byte_at(b, 8) != 1 {
+        return false;
+    }
+    if b.len() < 19 {
+        return false;
+    }
+    b.len() == 19 + head_fields::table_length(octets::byte_at(b, 18), octets::byte_at(b, 9))
+}
+
+fn refused(why: Refusal) -> HeadRead
+    ensures { λ r. ⌜ (r .head ≡ noHead) × (r .verdict ≡ Verdict.Refused why) ⌝ }
+{
+    let mapping = [0u8; 255];
+    let head = Head {
+        version: 0,
+        channels: 0,
+        preskip: 0,
+        rate: 0,
+        gain: 0,
+        family: 0,
+        streams: 0,
+        coupled: 0,
+        mapping,
+    };
+    HeadRead {
+        verdict: Verdict::Refused(why),
+        head,
+    }
+}
+
+// The fields of an identification header. 12: wrong signature, version or length. 13: wrong channel mapping. Under a
+// refusal the record is all zeros.
+pub fn read_head(b: &[u8]) -> HeadRead
+    ensures { λ r. ⌜ HeadIs (now (b .entry)) r ⌝ }
+{
+    if !is_head(b) {
+        return refused(Refusal::BadHead);
+    }
+    let head = head_of(b);
+    if !head_fields::right_mapping(head) {
+        return refused(Refusal::BadMapping);
+    }
+    HeadRead {
+        verdict: Verdict::Right,
+        head,
+    }
+}

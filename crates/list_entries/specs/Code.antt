@@ -1,0 +1,60 @@
+-- What the code keeps from one line to the next. Assumes nothing.
+use Prim.Native.Nat.{ℕ, _+_, _-_, _/_, _%_, _≤_, _<_}
+use mathlib.Core.Path.{_≡_}
+use mathlib.Core.Bool.{Bool, _&&_}
+use mathlib.Core.List.{_++_}
+use lib.Dec.{ltb, leb, eqb}
+use lib.ListN.{length, take, drop}
+use Rattle.octets.specs.Octets.{Bytes}
+use Rattle.octets.specs.Numbers.{octets}
+use Rattle.text_put.specs.Writing.{Laid}
+use Rattle.text_put.specs.Marks.{space, lineFeed}
+use Rattle.text_decimal.specs.Decimal.{decimal}
+use Rattle.list_lines.specs.Lines.{entryLine}
+use Rattle.list_entries.specs.declared.Repeat.{Repeat}
+use Rattle.list_entries.specs.declared.Next.{Next}
+
+-- what follows the end stamp
+unfoldable pub tailLine : ℕ → ℕ → Bytes
+tailLine size kept = space ++ decimal size ++ space ++ decimal kept ++ lineFeed
+
+-- the bytes that c has: the digits of the stamps from `base` on but the last four, and what follows a stamp
+pub record Has (c : Repeat) : Type 0 where
+  pub high : 10000 ≤ c .base
+  pub round : c .base % 10000 ≡ 0
+  pub four : 4 ≤ c .digits
+  pub eight : c .digits ≤ 8
+  pub upper : take (c .digits) (octets 8 (c .upper)) ≡ decimal (c .base / 10000)
+  pub long : c .length ≡ length (tailLine (c .size) (c .kept))
+  pub least : 8 ≤ c .length
+  pub most : c .length ≤ 16
+  pub first : octets 8 (c .first) ≡ take 8 (tailLine (c .size) (c .kept))
+  pub last : octets 8 (c .last) ≡ drop (c .length - 8) (tailLine (c .size) (c .kept))
+
+-- no digits: nothing is kept
+abbrev pub Sound : Repeat → Type 0
+Sound c = 1 ≤ c .digits → Has c
+
+-- the line of this packet is made of the bytes that c has, and its last four digits
+abbrev pub isAgain : Repeat → ℕ → ℕ → ℕ → Bool
+isAgain c end size kept =
+    ltb 0 (c .digits) && (leb (c .base) end && (ltb (end - c .base) 10000 && (eqb size (c .size) && eqb kept (c .kept))))
+
+-- there is room for it
+pub record Again (out : Bytes) (at : ℕ) (c : Repeat) (end : ℕ) : Type 0 where
+  pub has : Has c
+  pub room : at + 63 ≤ length out
+  pub above : c .base ≤ end
+  pub near : end - c .base < 10000
+
+-- the line of a packet stands at a place of the buffer
+pub record Stands (out : Bytes) (at next end size kept : ℕ) : Type 0 where
+  pub place : next ≡ at + length (entryLine end size kept)
+  pub fits : next ≤ length out
+  pub line : take (length (entryLine end size kept)) (drop at out) ≡ entryLine end size kept
+
+-- a line s is laid, and bytes are kept of it
+pub record Lays (d : Bytes) (at : ℕ) (s : Bytes) (r : Next) (out : Bytes) : Type 0 where
+  pub laid : Laid d at s (r .at) out
+  pub within : r .at ≤ length d
+  pub sound : Sound (r .repeat)

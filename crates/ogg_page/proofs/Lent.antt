@@ -1,9 +1,0 @@
--- Reading a page by lent tables is reading it, where the tables are right. Assumes nothing.
-use Rattle.crc_tables.specs.Table.{entryIn}
-use Rattle.ogg_crc.proofs.Page.{page-sliced-right}
-use Rattle.ogg_page.specs.Reading.{readPage}
-use Rattle.ogg_page.specs.Statements.{LentReads}
-
-pub lent-reads : LentReads
-unfolding readPage
-lent-reads t right p o = rw (page-sliced-right (entryIn t) right p o)

@@ -1,0 +1,151 @@
+-- The frames of a packet, way by way: whether they fit behind a place of s, and how many they are. Assumes nothing.
+use mathlib.Core.Path.{_≡_, refl, sym, ap, _∙_}
+use mathlib.Core.Bool.{Bool, true, false}
+use mathlib.Core.List.{List, [], _∷_, _++_}
+use Prim.Native.Nat.{ℕ, zero, suc, _+_, _*_, _-_, _/_, _%_, _≤_, _<_}
+use native.Mathlib.Omega.{arith}
+use borrow.Author.Tests.{lt-ltb, le-ltb, eq-eqb, ne-eqb}
+use lib.Dec.{ltb}
+use lib.ListN.{length, drop, replicate, length-append, length-drop, length-replicate}
+use lib.Seq.{drop-length, drop-drop}
+use Rattle.octets.specs.Pick.{pick}
+use Rattle.octets.specs.Octets.{Bytes, total}
+use Rattle.packet_frames.specs.Frames.{Rule, R1, R2, frameMax, Read, short, value, coded, withFirst, andLater, codedTimes}
+use Rattle.packet_frames.specs.Packet.{Parsed, breaks, frames, placed, lastFrame}
+use Rattle.packet_frames.specs.Code.{summed, plain, outline, framesIn, placedCount}
+
+-- frames of n bytes in all and p bytes of padding
+module _ (s : Bytes) (at m n p : ℕ) where
+  pub placed-short : length s - at < n + p → short ≡ placedCount m n p (drop at s)
+  placed-short h = rw (length-drop at s, lt-ltb (length s - at) (n + p) h)
+
+  pub placed-fits : n + p ≤ length s - at → value m (drop (at + n + p) s) ≡ placedCount m n p (drop at s)
+  placed-fits h =
+      let e : at + (n + p) ≡ at + n + p = omega arith in
+      rw (length-drop at s, le-ltb (length s - at) (n + p) h, drop-drop (n + p) at s, e)
+
+-- equal frames
+module _ (s : Bytes) (at m p : ℕ) where
+  pub equal-short : length s - at < p → short ≡ framesIn false (plain m false p (drop at s))
+  equal-short h = rw (length-drop at s, lt-ltb (length s - at) p h)
+
+  module _ (h : p ≤ length s - at) where
+    pub equal-uneven : ((length s - at - p) % m ≡ 0 → ⊥) → short ≡ framesIn false (plain m false p (drop at s))
+    equal-uneven n = rw (length-drop at s, le-ltb (length s - at) p h, ne-eqb ((length s - at - p) % m) 0 n)
+
+    module _ (e : (length s - at - p) % m ≡ 0) where
+      pub equal-long : 1275 < (length s - at - p) / m → short ≡ framesIn false (plain m false p (drop at s))
+      equal-long l =
+          rw (length-drop at s, le-ltb (length s - at) p h, eq-eqb ((length s - at - p) % m) 0 e, lt-ltb 1275 ((length s - at - p) / m) l)
+
+      pub equal-fits : (length s - at - p) / m ≤ 1275 → value m (drop (length s) s) ≡ framesIn false (plain m false p (drop at s))
+      equal-fits l =
+          rw
+          (length-drop at s, le-ltb (length s - at) p h, eq-eqb ((length s - at - p) % m) 0 e, le-ltb 1275 ((length s - at - p) / m) l, drop-length s)
+          (ap (λ (k : ℕ). value k []) (sym (length-replicate m ((length s - at - p) / m))))
+
+-- lengths that were read: there are as many as were asked for
+record Sized (n : ℕ) (b : Bytes) (sum : ℕ) (t : Bytes) : Type 0 where
+  pub sizes : List ℕ
+  pub read : codedTimes n b ≡ value sizes t
+  pub whole : total sizes ≡ sum
+  pub count : length sizes ≡ n
+
+pub times-length : (n : ℕ) (b ns t : Bytes) → codedTimes n b ≡ value ns t → length ns ≡ n
+unfolding codedTimes
+times-length zero b ns t e = let z : ns ≡ [] = cc in rw z
+times-length (suc n) b ns t e = one (coded b) (times-length n) e
+  where
+    more : (k : ℕ) (r : Read (List ℕ)) → ((ms : List ℕ) (u : Bytes) → r ≡ value ms u → length ms ≡ n) → withFirst k r ≡ value ns t → length ns ≡ suc n
+    more k short h f = let z : _≡_ {A = ℕ} 0 1 = cc in absurd (omega arith)
+    more k (value ms u) h f = let z : ns ≡ k ∷ ms = cc in rw z (ap suc (h ms u refl))
+
+    one : (r : Read ℕ) → ((u ms v : Bytes) → codedTimes n u ≡ value ms v → length ms ≡ n) → andLater (codedTimes n) r ≡ value ns t → length ns ≡ suc n
+    one short h f = let z : _≡_ {A = ℕ} 0 1 = cc in absurd (omega arith)
+    one (value k u) h f = more k (codedTimes n u) (h u) f
+
+sized : (n : ℕ) (b : Bytes) (sum : ℕ) (t : Bytes) → value sum t ≡ summed (codedTimes n b) → Sized n b sum t
+sized n b sum t e = by (codedTimes n b) refl e
+  where
+    by : (r : Read (List ℕ)) → codedTimes n b ≡ r → value sum t ≡ summed r → Sized n b sum t
+    by short q f = let z : _≡_ {A = ℕ} 0 1 = cc in absurd (omega arith)
+    by (value ns u) q f =
+        let z : u ≡ t = cc in
+        let w : total ns ≡ sum = cc in
+        record { sizes = ns; read = rw z at q; whole = w; count = times-length n b ns u q }
+
+unread : (r : Read (List ℕ)) → short ≡ summed r → r ≡ short
+unread short e = refl
+unread (value ns t) e = let z : _≡_ {A = ℕ} 0 1 = cc in absurd (omega arith)
+
+-- the number of the frames, where they fit
+outline-pick : (t : Bool) (rule : Rule) (q : Parsed) → outline (pick t (breaks rule) q) ≡ pick t short (outline q)
+outline-pick true rule q = refl
+outline-pick false rule q = refl
+
+placed-outline : (ns : List ℕ) (m n p : ℕ) (t : Bytes) → length ns ≡ m → total ns ≡ n → outline (placed R1 ns p t) ≡ placedCount m n p t
+placed-outline ns m n p t c w = rw w (outline-pick (ltb (length t) (n + p)) R1 (frames ns (drop (n + p) t)) ∙ rw c)
+
+total-replicate : (m n : ℕ) → total (replicate m n) ≡ m * n
+unfolding total
+total-replicate zero n = omega arith
+total-replicate (suc m) n = rw (total-replicate m n) (omega arith)
+
+-- self-delimited: a length for each frame, or one for all
+module _ (s : Bytes) (at m p : ℕ) where
+  pub each-cut : short ≡ summed (codedTimes m (drop at s)) → short ≡ framesIn true (plain m true p (drop at s))
+  each-cut e = rw (unread (codedTimes m (drop at s)) e)
+
+  pub each-placed : {q : Read ℕ} (n next : ℕ) → value n (drop next s) ≡ summed (codedTimes m (drop at s)) → q ≡ placedCount m n p (drop next s)
+      → q ≡ framesIn true (plain m true p (drop at s))
+  each-placed n next e f =
+      let z = sized m (drop at s) n (drop next s) e in
+      f ∙ rw (z .read) (sym (placed-outline (z .sizes) m n p (drop next s) (z .count) (z .whole)))
+
+  pub all-cut : short ≡ coded (drop at s) → short ≡ framesIn true (plain m false p (drop at s))
+  all-cut e = rw (← e)
+
+  pub all-placed : {q : Read ℕ} (n next : ℕ) → value n (drop next s) ≡ coded (drop at s) → q ≡ placedCount m (m * n) p (drop next s)
+      → q ≡ framesIn true (plain m false p (drop at s))
+  all-placed n next e f =
+      f ∙ rw (← e) (sym (placed-outline (replicate m n) m (m * n) p (drop next s) (length-replicate m n) (total-replicate m n)))
+
+-- m frames, the last one with what is left of `room` bytes behind n bytes for the others and the padding
+abbrev lastCount : ℕ → ℕ → ℕ → Read ℕ
+lastCount m n room = pick (ltb room n) short (pick (ltb frameMax (room - n)) short (value m []))
+
+last-outline : (ns : List ℕ) (m n p : ℕ) (t : Bytes) → length ns + 1 ≡ m → total ns ≡ n → outline (lastFrame R1 ns p t) ≡ lastCount m (n + p) (length t)
+last-outline ns m n p t c w =
+    let k : ℕ = length t - (n + p) in
+    let count : length (ns ++ (k ∷ [])) ≡ m = length-append ns (k ∷ []) ∙ c in
+    let q : Parsed = frames (ns ++ (k ∷ [])) [] in
+    rw w
+    (outline-pick (ltb (length t) (n + p)) R1 (pick (ltb frameMax k) (breaks R2) q)
+    ∙ rw (outline-pick (ltb frameMax k) R2 q, count))
+
+-- the last frame takes the rest
+pub last-cut : (s : Bytes) (at m p : ℕ) → short ≡ summed (codedTimes (m - 1) (drop at s)) → short ≡ framesIn false (plain m true p (drop at s))
+last-cut s at m p e = rw (unread (codedTimes (m - 1) (drop at s)) e)
+
+-- the lengths of the other frames, read up to the place `next`: n in all
+pub record Others (s : Bytes) (at m p n next : ℕ) : Type 0 where
+  pub some : 1 ≤ m
+  pub inside : next ≤ length s
+  pub read : value n (drop next s) ≡ summed (codedTimes (m - 1) (drop at s))
+
+module _ {s : Bytes} {at m p n next : ℕ} (o : Others s at m p n next) where
+  last-told : framesIn false (plain m true p (drop at s)) ≡ lastCount m (n + p) (length s - next)
+  last-told =
+      let z = sized (m - 1) (drop at s) n (drop next s) (o .read) in
+      let count : length (z .sizes) + 1 ≡ m = omega arith in
+      rw (z .read, ← length-drop next s) (last-outline (z .sizes) m n p (drop next s) count (z .whole))
+
+  pub last-short : length s - next < n + p → short ≡ framesIn false (plain m true p (drop at s))
+  last-short h = rw (last-told, lt-ltb (length s - next) (n + p) h)
+
+  module _ (h : n + p ≤ length s - next) where
+    pub last-long : 1275 < length s - next - (n + p) → short ≡ framesIn false (plain m true p (drop at s))
+    last-long l = rw (last-told, le-ltb (length s - next) (n + p) h, lt-ltb 1275 (length s - next - (n + p)) l)
+
+    pub last-fits : length s - next - (n + p) ≤ 1275 → value m (drop (length s) s) ≡ framesIn false (plain m true p (drop at s))
+    last-fits l = rw (last-told, le-ltb (length s - next) (n + p) h, le-ltb 1275 (length s - next - (n + p)) l, drop-length s)

@@ -1,0 +1,56 @@
+// The lines that show a comment header. Each public function puts one whole line into a lent buffer, or nothing where it does
+// not fit, and answers the place behind it.
+ghost use mathlib.Core.Path.{_≡_};
+ghost use Prim.Native.Nat.{_≤_};
+ghost use lib.ListN.{length};
+ghost use Rattle.text_put.specs.Writing.{Put, Laid};
+ghost use Rattle.tags_lines.specs.Lines.{commentIs, textLine, isGain, commentEnd};
+use tags_comment::GainRead;
+
+// A text behind its name, escaped, and what ends the line.
+pub fn put_text(out: &mut [u8], at: usize, name: &[u8], text: &[u8], end: &[u8]) -> usize
+    ensures { λ r. ⌜ Put (now (out .entry)) at (textLine (now (name .entry)) (now (text .entry)) (now (end .entry))) r (now (out .exit)) ⌝ }
+{
+    if out.len() < at {
+        return at;
+    }
+    let plain = name.len() + end.len();
+    if out.len() - at < plain {
+        return at;
+    }
+    if !text_escape::fits_within(text, out.len() - at - plain) {
+        return at;
+    }
+    let second = text_put::put_bytes(out, at, name);
+    let third = text_escape::put_escaped(out, second, text);
+    text_put::put_bytes(out, third, end)
+}
+
+fn is_gain(c: &[u8]) -> bool
+    ensures { λ r. ⌜ r ≡ isGain (now (c .entry)) ⌝ }
+{
+    tags_comment::is_named(b"R128_TRACK_GAIN", c) | tags_comment::is_named(b"R128_ALBUM_GAIN", c)
+}
+
+// What ends the line of a comment: behind a gain that is right, its decibels.
+fn lay_end(out: &mut [u8], c: &[u8]) -> usize
+    requires { ⌜ 35 ≤ length (now out) ⌝ }
+    ensures { λ r. ⌜ Laid (now (out .entry)) 0 (commentEnd (now (c .entry))) r (now (out .exit)) × (length (commentEnd (now (c .entry))) ≤ 35) ⌝ }
+{
+    if !is_gain(c) {
+        return text_put::put_bytes(out, 0, b"\n");
+    }
+    match tags_comment::comment_gain(c) {
+        GainRead::Gain(g) => text_gain::put_decibels(out, 0, g),
+        GainRead::Refused(_) => text_put::put_bytes(out, 0, b"\n"),
+    }
+}
+
+// A comment.
+pub fn put_comment(out: &mut [u8], at: usize, c: &[u8]) -> usize
+    ensures { λ r. ⌜ Put (now (out .entry)) at (textLine commentIs (now (c .entry)) (commentEnd (now (c .entry)))) r (now (out .exit)) ⌝ }
+{
+    let mut end = [0u8; 35];
+    let n = lay_end(&mut end, c);
+    put_text(out, at, b"comment ", c, octets::part_of(&end, 0, n))
+}

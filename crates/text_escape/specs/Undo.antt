@@ -1,0 +1,28 @@
+-- The bytes that an escaped text stands for. Assumes nothing.
+use Prim.Native.Nat.{ℕ, _+_, _-_, _*_}
+use mathlib.Core.List.{[], _∷_}
+use lib.Dec.{ltb, eqb}
+use Rattle.octets.specs.Pick.{pick}
+use Rattle.octets.specs.Octets.{Bytes}
+use Rattle.text_escape.specs.Escape.{backslash}
+
+-- what was read of an escape: nothing, its backslash, "\x", or that and the first digit
+pub data Begun : Type 0 where
+  nothing : Begun
+  slash : Begun
+  slashX : Begun
+  digit : ℕ → Begun
+
+-- what a digit "0" to "9" or "A" to "F" stands for
+abbrev pub hexValue : ℕ → ℕ
+hexValue b = pick (ltb b 0x3A) (b - 0x30) (b - 0x37)
+
+unfoldable pub unescapedFrom : Begun → Bytes → Bytes
+unescapedFrom w [] = []
+unescapedFrom nothing (b ∷ t) = pick (eqb b backslash) (unescapedFrom slash t) (b ∷ unescapedFrom nothing t)
+unescapedFrom slash (b ∷ t) = pick (eqb b backslash) (backslash ∷ unescapedFrom nothing t) (unescapedFrom slashX t)
+unescapedFrom slashX (b ∷ t) = unescapedFrom (digit (hexValue b)) t
+unescapedFrom (digit h) (b ∷ t) = (h * 16 + hexValue b) ∷ unescapedFrom nothing t
+
+unfoldable pub unescaped : Bytes → Bytes
+unescaped t = unescapedFrom nothing t
