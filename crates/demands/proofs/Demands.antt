@@ -34,7 +34,7 @@ pub demand-three : Demand3
 demand-three = record {
   full = stream-state R;
   opens = opens-stream pageCrc;
-  second = λ F j M f. demand-3 R F j M (f .first) (f .second) (f .room) (f .pages) (f .others);
+  second = demand-3 R;
   began = continued-says R;
   counts = stream-counts R;
 }

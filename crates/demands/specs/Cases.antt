@@ -6,6 +6,8 @@ use mathlib.Core.Path.{_≡_}
 use mathlib.Core.Bool.{Bool, true, false}
 use mathlib.Core.List.{List, [], _∷_, map}
 use Rattle.octets.specs.Octets.{Bytes}
+use Rattle.refusal.specs.declared.Refusal.the-variants.{IllegalPacket, BelowPreSkip, GranuleTooSmall}
+use Rattle.refusal.specs.Numbers.{numberOf}
 use Rattle.refusal.specs.Told.{Told, gives, refuses}
 use Rattle.packet_reader.specs.Streams.{readPacket}
 use Rattle.granule.specs.declared.Position.{Position}
@@ -26,7 +28,7 @@ pub data Given : Type 0 where
   pages : List Timed → Given
 
 pub data Outcome : Type 0 where
-  length : ℕ → Outcome
+  samples : ℕ → Outcome  -- the length of a packet
   counts : ℕ → ℕ → Outcome  -- the samples kept, and those trimmed
   refused : ℕ → Outcome
 
@@ -36,12 +38,12 @@ pub record Case : Type 0 where
 
 -- ---- what the rules say
 
-abbrev lengthTold : Told ℕ → Outcome
-lengthTold (gives n) = length n
-lengthTold (refuses n) = refused n
+abbrev samplesTold : Told ℕ → Outcome
+samplesTold (gives n) = samples n
+samplesTold (refuses n) = refused n
 
 abbrev plus : Outcome → ℕ → ℕ → Outcome
-plus (length n) k t = length n
+plus (samples n) k t = samples n
 plus (counts kept trimmed) k t = counts (kept + k) (trimmed + t)
 plus (refused n) k t = refused n
 
@@ -58,7 +60,7 @@ countsOf position preskip skip (p ∷ ps) =
     (countsOf (At (p .granule)) preskip (skip - p .samples) ps)
 
 abbrev pub found : Given → Outcome
-found (packet b) = lengthTold (readPacket b 1)
+found (packet b) = samplesTold (readPacket b 1)
 found (pages ps) = countsOf Unset 312 312 ps
 
 -- ---- the table
@@ -74,21 +76,21 @@ page g d last = record { granule = g; samples = d; last = last }
 
 abbrev pub cases : List Case
 cases =
-    a-packet (0x00 ∷ []) (length 480)
-    ∷ a-packet [] (refused 15)
-    ∷ a-packet (0x01 ∷ 0xaa ∷ []) (refused 15)
-    ∷ a-packet (0x01 ∷ 0xaa ∷ 0xbb ∷ []) (length 960)
-    ∷ a-packet (0x02 ∷ 0x02 ∷ 0x11 ∷ 0x22 ∷ []) (length 960)
-    ∷ a-packet (0x02 ∷ 0x03 ∷ 0x11 ∷ 0x22 ∷ []) (refused 15)
-    ∷ a-packet (0x03 ∷ 0x00 ∷ []) (refused 15)
-    ∷ a-packet (0x83 ∷ 0x30 ∷ []) (length 5760)
-    ∷ a-packet (0x83 ∷ 0x31 ∷ []) (refused 15)
-    ∷ a-packet (0x83 ∷ 0x41 ∷ 0x01 ∷ 0x00 ∷ []) (length 120)
-    ∷ a-packet (0x83 ∷ 0x41 ∷ 0x02 ∷ 0x00 ∷ []) (refused 15)
-    ∷ a-packet (0x4f ∷ 0x70 ∷ []) (refused 15)
-    ∷ some-pages (page 2879 2880 false ∷ []) (refused 17)
+    a-packet (0x00 ∷ []) (samples 480)
+    ∷ a-packet [] (refused (numberOf IllegalPacket))
+    ∷ a-packet (0x01 ∷ 0xaa ∷ []) (refused (numberOf IllegalPacket))
+    ∷ a-packet (0x01 ∷ 0xaa ∷ 0xbb ∷ []) (samples 960)
+    ∷ a-packet (0x02 ∷ 0x02 ∷ 0x11 ∷ 0x22 ∷ []) (samples 960)
+    ∷ a-packet (0x02 ∷ 0x03 ∷ 0x11 ∷ 0x22 ∷ []) (refused (numberOf IllegalPacket))
+    ∷ a-packet (0x03 ∷ 0x00 ∷ []) (refused (numberOf IllegalPacket))
+    ∷ a-packet (0x83 ∷ 0x30 ∷ []) (samples 5760)
+    ∷ a-packet (0x83 ∷ 0x31 ∷ []) (refused (numberOf IllegalPacket))
+    ∷ a-packet (0x83 ∷ 0x41 ∷ 0x01 ∷ 0x00 ∷ []) (samples 120)
+    ∷ a-packet (0x83 ∷ 0x41 ∷ 0x02 ∷ 0x00 ∷ []) (refused (numberOf IllegalPacket))
+    ∷ a-packet (0x4f ∷ 0x70 ∷ []) (refused (numberOf IllegalPacket))
+    ∷ some-pages (page 2879 2880 false ∷ []) (refused (numberOf GranuleTooSmall))
     ∷ some-pages (page 2879 2880 true ∷ []) (counts 2567 1)
-    ∷ some-pages (page 311 2880 true ∷ []) (refused 18)
+    ∷ some-pages (page 311 2880 true ∷ []) (refused (numberOf BelowPreSkip))
     ∷ some-pages (page 10000 2880 false ∷ page 10100 960 true ∷ []) (counts 2668 860)
     ∷ []
 

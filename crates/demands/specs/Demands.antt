@@ -14,10 +14,12 @@ use Rattle.tags_writer.specs.Statements as tagsWriter
 use Rattle.packet_reader.specs.Statements as opusPacket
 use Rattle.stream.specs.Page.{pageOf, continued}
 use Rattle.stream.specs.Readings.{Readings, readings}
-use Rattle.stream.specs.Feed.{Reader, start, openPartWay, Lent, feed, Taken}
+use Rattle.stream.specs.Feed.{Reader, start, openPartWay, feed, Taken}
+use Rattle.stream.specs.Lent.{Lent}
 use Rattle.stream.specs.Stream.{headOf, marks}
-use Rattle.stream.specs.Feedings.{Feeding, finally, carryLeft, HandedOn, Shown, stream, bytesOf, Marked, allOf, marked, RoomAtMarks, OthersRefused, toldAtMarks, joined}
-use Rattle.stream.specs.Statements.{Keeps, Shows, Agree, AllOctets, Determined, Counted, audioIn, beganBefore, openedIn}
+use Rattle.stream.specs.Feedings.{Feeding, finally, carryLeft, HandedOn, Shown, stream, bytesOf, Marked, allOf, marked}
+use Rattle.stream.specs.Feedings.{RoomAtMarks, OthersRefused, toldAtMarks, joined}
+use Rattle.stream.specs.Statements.{Keeps, Shows, Followed, Agree, AllOctets, Determined, Counted, audioIn, beganBefore, openedIn}
 use Rattle.demands.specs.Cases.{CasesHold}
 
 -- the readings of pages, headers, comment headers and packets
@@ -49,16 +51,6 @@ pub record Demand2 : Type 0 where
   pub reading : Agree pageCrc
   pub cases : CasesHold
 
--- the feedings to the full reader, and those to a second one, opened with the stream's header record: each gets the reader, and
--- the held bytes, as the last left them; those marked are the stream from its audio page j on, and have the room asked; the
--- others are refused
-pub record Followed (F : List Feeding) (j : ℕ) (M : List Marked) : Type 0 where
-  pub first : HandedOn R start [] F
-  pub second : HandedOn R (openedIn R F) [] (allOf M)
-  pub room : RoomAtMarks M
-  pub pages : marked M ≡ bytesOf (drop j (audioIn R F))
-  pub others : OthersRefused R (openedIn R F) M
-
 -- Demand 3. After any list of feedings the full reader is where the stream's pages alone put it, and told of them what they
 -- alone determine. A second reader can be opened with the stream's header record. At any audio page on, it tells what the full
 -- reader listed, but for a packet that began before, or 19 on a last page with nothing to stand on. The kept counts are those
@@ -67,10 +59,10 @@ pub record Demand3 : Type 0 where
   pub full : (F : List Feeding) → HandedOn R start [] F → Determined R (streamOf F) (finally R start F) (carryLeft R start [] F)
   pub opens : (F : List Feeding) → AllOctets F → HandedOn R start [] F → 0 < length (streamOf F)
       → openPartWay (headOf R (bytesOf (streamOf F))) ≡ gives (openedIn R F)
-  pub second : (F : List Feeding) (j : ℕ) (M : List Marked) → Followed F j M
+  pub second : (F : List Feeding) (j : ℕ) (M : List Marked) → Followed R F j M
       → toldAtMarks R (openedIn R F) M ≡ joined (beganBefore R F j) (drop j (audioIn R F))
-  pub began : (F : List Feeding) (j : ℕ) (x : Shown) (later : List Shown) → HandedOn R start [] F → drop j (audioIn R F) ≡ x ∷ later
-      → continued (pageOf (x .bytes)) ≡ beganBefore R F j
+  pub began : (F : List Feeding) (j : ℕ) (x : Shown) (later : List Shown) → HandedOn R start [] F
+      → drop j (audioIn R F) ≡ x ∷ later → continued (pageOf (x .bytes)) ≡ beganBefore R F j
   pub counts : (F : List Feeding) → HandedOn R start [] F
       → Counted (streamOf F) (headOf R (bytesOf (streamOf F)) .preskip) (marks R (bytesOf (streamOf F)))
 

@@ -5,9 +5,8 @@ use mathlib.Core.List.{List, [], _∷_}
 use mathlib.Core.Option.{some}
 use Prim.Native.Nat.{ℕ, _<_}
 use borrow.Author.Tests.{lt-ltb}
-use lib.Dec.{ltb, eqb}
 use lib.ListN.{length}
-use Rattle.octets.specs.Octets.{Bytes, total}
+use Rattle.octets.specs.Octets.{Bytes}
 use Rattle.refusal.specs.declared.Refusal.{Refusal}
 use Rattle.refusal.specs.Numbers.{numberOf}
 use Rattle.refusal.specs.declared.Refusal.the-variants.{UnfitFields}
@@ -15,6 +14,7 @@ use Rattle.refusal.specs.Checks.{_when_, firstOf}
 use Rattle.refusal.specs.Told.{Told, gives, refuses, retold}
 use Rattle.page_crc.specs.Crc.{pageCrc}
 use Rattle.page_layout.specs.declared.PageHeader.{PageHeader}
+use Rattle.page_lacing.specs.Lacing.{isBody}
 use Rattle.page_layout.specs.Page.{lacingOf, bodyOf}
 use Rattle.page_reader.specs.declared.PageRead.{PageRead}
 use Rattle.page_reader.specs.declared.PageRead.the-variants.{Page, Refused as NoPage}
@@ -75,14 +75,13 @@ module _ (h : PageHeader) (l b out : Bytes) (old : ℕ) where
   -- flags above 7 are refused whatever else is wrong, since the checks before theirs give the same number
   flags-decide : 7 < h .flags → firstOf (writeChecks h l b (length out)) ≡ some UnfitFields
   unfolding firstOf
-  flags-decide f = rw (lt-ltb 7 (h .flags) f) (either (ltb 255 (length l)) (not (eqb (total l) (length b))))
+  flags-decide f = rw (lt-ltb 7 (h .flags) f) (either (not (isBody l b)))
     where
-      either : (s t : Bool) → firstOf (UnfitFields when s ∷ UnfitFields when t ∷ UnfitFields when true ∷ []) ≡ some UnfitFields
-      either true t = refl
-      either false true = refl
-      either false false = refl
+      either : (s : Bool) → firstOf (UnfitFields when s ∷ UnfitFields when true ∷ []) ≡ some UnfitFields
+      either true = refl
+      either false = refl
 
-  pub flags-refused : 7 < h .flags → PageOut h l b 23 out out old old
+  pub flags-refused : 7 < h .flags → PageOut h l b (numberOf UnfitFields) out out old old
   unfolding pageTold pageOut
   flags-refused f = unwritten refl (rw (flags-decide f)) (rw (flags-decide f)) refl
 
@@ -99,7 +98,7 @@ module _ (p : Bytes) (numbers places : List ℕ) (r : HeadRead) (is : HeadIs p r
       rw m (record { answer = rw e; numbers = rw e; places = rw e })
 
 module _ (f m out : Bytes) (old : ℕ) where
-  pub numbers-unfit : fitting f ≡ false → HeadLaid f m 23 out out old old
+  pub numbers-unfit : fitting f ≡ false → HeadLaid f m (numberOf UnfitFields) out out old old
   unfolding headTold headOut
   numbers-unfit e = record { answer = rw e; output = rw e; written = rw e }
 

@@ -4,27 +4,24 @@ use mathlib.Core.Path.{_≡_, refl, sym, ap, _∙_}
 use mathlib.Core.Bool.{true, false}
 use mathlib.Core.List.{List}
 use Rattle.octets.specs.Octets.{Bytes}
-use Rattle.refusal.specs.Told.{Told, gives, refuses, retold, numberIn}
+use Rattle.refusal.specs.declared.Refusal.{Refusal}
+use Rattle.refusal.specs.declared.Refusal.the-variants.{UnfitFields}
+use Rattle.refusal.specs.Numbers.{numberOf}
+use Rattle.refusal.specs.Told.{Told, gives, refuses, retold}
+use Rattle.refusal.proofs.Numbers.{numbers-positive}
 use Rattle.head_fields.specs.declared.Head.{Head}
 use Rattle.stream.specs.declared.Counts.{Counts}
-use Rattle.stream.specs.Feed.{Reader, openPartWay, Lent, lentOf, Taken}
+use Rattle.stream.specs.Feed.{Reader, openPartWay, Taken}
+use Rattle.stream.specs.Lent.{Lent}
 use Rattle.feed_numbers.specs.Numbers.{numbersOf}
 use Rattle.reader.specs.declared.StateOpened.{StateOpened}
+use Rattle.reader.specs.declared.StateOpened.the-variants.{Done, Refused as NotOpened}
 use Rattle.reader.specs.declared.StateFed.{StateFed}
-use Rattle.reader.specs.Numbers.{openedNumber, numbersOpened, StateOpenedIs, toldState, numbersAfter, StateFedIs}
+use Rattle.reader.specs.declared.StateFed.the-variants.{Accepted, Refused}
+use Rattle.reader.specs.Numbers.{toldOpenedIn, numbersOpened, StateOpenedIs, toldIn, numbersAfter, StateFedIs}
 use Rattle.head_numbers.specs.Numbers.{fitting, headFrom}
 use Rattle.embulgri.specs.Answers.{stored}
 use Rattle.embulgri.specs.Feeding.{openTold, OpenedIn, pageRecord, fedOf, FedIn}
-
--- ---- what is told, turned into something else
-
-number-retold : {A B : Type 0} (f : A → B) (t : Told A) → numberIn t ≡ numberIn (retold f t)
-number-retold f (gives a) = refl
-number-retold f (refuses n) = refl
-
-retold-twice : {A B C : Type 0} (f : A → B) (g : B → C) (t : Told A) → retold g (retold f t) ≡ retold (λ (a : A). g (f a)) t
-retold-twice f g (gives a) = refl
-retold-twice f g (refuses n) = refl
 
 -- ---- opening part way
 
@@ -33,16 +30,24 @@ stored-opened (gives r) old = refl
 stored-opened (refuses n) old = refl
 
 module _ (f : List ℕ) (m : Bytes) (old : List ℕ) where
-  pub open-unfit : fitting f ≡ false → OpenedIn f m 23 old old
+  pub open-unfit : fitting f ≡ false → OpenedIn f m (numberOf UnfitFields) old old
   unfolding openTold
-  open-unfit e = record { answer = rw e; output = rw e }
+  open-unfit e = record { opens = rw e; state = rw e }
 
-  pub open-fit : {h : Head} → h ≡ headFrom f m → fitting f ≡ true → {r : StateOpened} {end : List ℕ} → StateOpenedIs (openPartWay h) r old end
-      → {number : ℕ} → number ≡ openedNumber r → OpenedIn f m number old end
-  unfolding openTold
-  open-fit {h} from fit is e =
-      rw (fit, ← from)
-      (record { answer = e ∙ is .told ∙ number-retold numbersOf (openPartWay h); output = is .numbers ∙ stored-opened (openPartWay h) old })
+  module _ {h : Head} (from : h ≡ headFrom f m) (fit : fitting f ≡ true) {r : StateOpened} {new : List ℕ} (is : StateOpenedIs (openPartWay h) r old new) where
+    told : openTold f m ≡ openPartWay h
+    unfolding openTold
+    told = rw (fit, ← from)
+
+    state-opened : new ≡ stored (retold numbersOf (openTold f m)) old
+    state-opened = is .numbers ∙ stored-opened (openPartWay h) old ∙ ap (λ (t : Told Reader). stored (retold numbersOf t) old) (sym told)
+
+    pub opened : r ≡ Done → OpenedIn f m 0 old new
+    opened e = record { opens = sym (ap (λ (s : StateOpened). toldOpenedIn s new) e) ∙ is .told ∙ sym told; state = state-opened }
+
+    pub unopened : {number : ℕ} (why : Refusal) → r ≡ NotOpened why → number ≡ numberOf why → OpenedIn f m number old new
+    unopened why e n =
+        record { opens = rw (n, numbers-positive why) (sym (ap (λ (s : StateOpened). toldOpenedIn s new) e) ∙ is .told ∙ sym told); state = state-opened }
 
 -- ---- feeding
 
@@ -50,13 +55,24 @@ stored-after : (t : Told Taken) (old : List ℕ) → numbersAfter t old ≡ stor
 stored-after (gives x) old = refl
 stored-after (refuses n) old = refl
 
-pub fed-in : (old : List ℕ) (page : Bytes) (m : Lent) {r : StateFed} {new : List ℕ} {carry : Bytes} {ends sizes kept : List ℕ}
-    → StateFedIs (fedOf old page m) r old new carry ends sizes kept
-    → {number : ℕ} (oldRecord : List ℕ) {endRecord : List ℕ} → number ≡ numberIn (toldState r) → endRecord ≡ stored (retold pageRecord (toldState r)) oldRecord
-    → FedIn old page m number new (lentOf carry ends sizes kept) oldRecord endRecord
-fed-in old page m is oldRecord e q = record {
-  answer = e ∙ ap numberIn (is .told) ∙ sym (number-retold (λ (x : Taken). x .counts) (fedOf old page m .told));
-  state = is .numbers ∙ stored-after (fedOf old page m .told) old;
-  lent = rw (is .held, is .ended, is .sized, is .keeps);
-  counts = q ∙ ap (λ (t : Told Counts). stored (retold pageRecord t) oldRecord) (is .told) ∙ ap (λ (t : Told (List ℕ)). stored t oldRecord) (retold-twice (λ (x : Taken). x .counts) pageRecord (fedOf old page m .told));
-}
+module _ (old : List ℕ) (page : Bytes) (m : Lent) {r : StateFed} {new : List ℕ} {after : Lent} (is : StateFedIs (fedOf old page m) r old new after)
+    (out : List ℕ) where
+  told-by : {s : StateFed} → r ≡ s → toldIn s new ≡ fedOf old page m .told
+  told-by e = sym (ap (λ (s : StateFed). toldIn s new) e) ∙ is .fed .told
+
+  state-after : new ≡ stored (retold (λ (x : Taken). numbersOf (x .reader)) (fedOf old page m .told)) old
+  state-after = is .numbers ∙ stored-after (fedOf old page m .told) old
+
+  pub fed : {end : List ℕ} (c : Counts) → r ≡ Accepted c → end ≡ pageRecord c → FedIn old page m 0 new after out end
+  fed c e same = record {
+    feeds = record { told = rw same (told-by e); lent = is .fed .lent };
+    state = state-after;
+    counts = rw (same, ← told-by e);
+  }
+
+  pub unfed : {number : ℕ} (why : Refusal) → r ≡ Refused why → number ≡ numberOf why → FedIn old page m number new after out out
+  unfed why e n = record {
+    feeds = record { told = rw (n, numbers-positive why) (told-by e); lent = is .fed .lent };
+    state = state-after;
+    counts = rw (← told-by e);
+  }

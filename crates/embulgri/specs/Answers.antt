@@ -10,6 +10,8 @@ use mir.Syntax.{w16}
 use mir.Val.{toZ, ofZ}
 use Rattle.octets.specs.Pick.{pick}
 use Rattle.octets.specs.Octets.{Bytes}
+use Rattle.refusal.specs.declared.Refusal.the-variants.{UnfitFields}
+use Rattle.refusal.specs.Numbers.{numberOf}
 use Rattle.refusal.specs.Told.{Told, gives, refuses, retold, numberIn}
 use Rattle.page_crc.specs.Crc.{pageCrc}
 use Rattle.page_layout.specs.declared.PageHeader.{PageHeader}
@@ -25,7 +27,7 @@ use Rattle.tags_layout.specs.declared.Part.{Part}
 use Rattle.tags_reader.specs.Reading.{readTags, commentCount, findVendor, findComment, readGain}
 use Rattle.tags_writer.specs.Writing as tagsWriting
 use Rattle.old_clock.specs.declared.Clock.{Clock}
-use Rattle.old_clock.specs.Clock.{addLength}
+use Rattle.old_clock.specs.Clock.{addSamples}
 
 -- an output at the end: what is given, or what it held
 abbrev pub stored : {A : Type 0} → Told A → A → A
@@ -71,7 +73,7 @@ pub record HeadIn (p : Bytes) (number : ℕ) (oldNumbers endNumbers oldPlaces en
 
 -- writing: a number that its field's width cannot hold is 23
 unfoldable pub headTold : List ℕ → Bytes → Bytes → Told ℕ
-headTold f m out = pick (fitting f) (headWriting.writeTold (headFrom f m) out) (refuses 23)
+headTold f m out = pick (fitting f) (headWriting.writeTold (headFrom f m) out) (refuses (numberOf UnfitFields))
 
 unfoldable pub headOut : List ℕ → Bytes → Bytes → Bytes
 headOut f m out = pick (fitting f) (headWriting.writeOut (headFrom f m) out) out
@@ -109,4 +111,4 @@ TagsOut vendor text ns number out end old count =
 -- ---- the old clock
 
 abbrev pub ClockAfter : Clock → ℕ → ℕ → Clock → Type 0
-ClockAfter old length number end = Answered (addLength old length) number old end
+ClockAfter old samples number end = Answered (addSamples old samples) number old end

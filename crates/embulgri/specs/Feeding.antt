@@ -3,25 +3,36 @@
 use Prim.Native.Nat.{ℕ}
 use mathlib.Core.Path.{_≡_}
 use mathlib.Core.List.{List, [], _∷_}
+use lib.Dec.{eqb}
+use lib.ListN.{getD}
 use Rattle.octets.specs.Pick.{pick}
 use Rattle.octets.specs.Octets.{Bytes}
-use Rattle.refusal.specs.Told.{Told, refuses, retold, numberIn}
+use Rattle.refusal.specs.declared.Refusal.the-variants.{UnfitFields}
+use Rattle.refusal.specs.Numbers.{numberOf}
+use Rattle.refusal.specs.Told.{Told, gives, refuses, retold}
 use Rattle.page_crc.specs.Crc.{pageCrc}
 use Rattle.stream.specs.declared.Counts.{Counts}
 use Rattle.stream.specs.Readings.{readings}
-use Rattle.stream.specs.Feed.{Reader, openPartWay, Lent, Taken, Fed, feed}
+use Rattle.stream.specs.Feed.{Reader, openPartWay, Taken, Fed, Feeds, feed}
+use Rattle.stream.specs.Lent.{Lent}
 use Rattle.feed_numbers.specs.Numbers.{numbersOf, readerFrom}
 use Rattle.head_numbers.specs.Numbers.{fitting, headFrom}
-use Rattle.embulgri.specs.Answers.{stored, Answered}
+use Rattle.embulgri.specs.Answers.{stored}
 
 -- ---- opening part way
 
 -- 23, also of a number that its field's width cannot hold; or a reader
 unfoldable pub openTold : List ℕ → Bytes → Told Reader
-openTold f m = pick (fitting f) (openPartWay (headFrom f m)) (refuses 23)
+openTold f m = pick (fitting f) (openPartWay (headFrom f m)) (refuses (numberOf UnfitFields))
 
-abbrev pub OpenedIn : List ℕ → Bytes → ℕ → List ℕ → List ℕ → Type 0
-OpenedIn f m number old end = Answered (retold numbersOf (openTold f m)) number old end
+-- what a returned number tells, the state being `new`
+abbrev pub toldOpened : ℕ → List ℕ → Told Reader
+toldOpened n new = pick (eqb n 0) (gives (readerFrom new)) (refuses n)
+
+-- the returned number, and the state from `old` to `new`: it stands for the reader that was opened
+pub record OpenedIn (f : List ℕ) (m : Bytes) (number : ℕ) (old new : List ℕ) : Type 0 where
+  pub opens : toldOpened number new ≡ openTold f m
+  pub state : new ≡ stored (retold numbersOf (openTold f m)) old
 
 -- ---- feeding
 
@@ -29,13 +40,28 @@ OpenedIn f m number old end = Answered (retold numbersOf (openTold f m)) number 
 abbrev pub pageRecord : Counts → List ℕ
 pageRecord c = c .packets ∷ c .samples ∷ c .kept ∷ c .skipped ∷ c .trimmed ∷ c .hole ∷ []
 
+abbrev pub countsFrom : List ℕ → Counts
+countsFrom l = record {
+  packets = getD l 0 0;
+  samples = getD l 1 0;
+  kept = getD l 2 0;
+  skipped = getD l 3 0;
+  trimmed = getD l 4 0;
+  hole = getD l 5 0;
+}
+
+-- what a returned number tells, the state being `new` and the page's record `out`
+abbrev pub toldFed : ℕ → List ℕ → List ℕ → Told Taken
+toldFed n new out = pick (eqb n 0) (gives (record { reader = readerFrom new; counts = countsFrom out })) (refuses n)
+
 -- the reader of these numbers fed with a page
 abbrev pub fedOf : List ℕ → Bytes → Lent → Fed
 fedOf state page m = feed (readings pageCrc) (readerFrom state) m page
 
--- the returned number, the state from `old` to `end`, the lent memory from m to n, and the page's record
-pub record FedIn (old : List ℕ) (page : Bytes) (m : Lent) (number : ℕ) (end : List ℕ) (n : Lent) (oldRecord endRecord : List ℕ) : Type 0 where
-  pub answer : number ≡ numberIn (fedOf old page m .told)
-  pub state : end ≡ stored (retold (λ (t : Taken). numbersOf (t .reader)) (fedOf old page m .told)) old
-  pub lent : n ≡ fedOf old page m .lent
-  pub counts : endRecord ≡ stored (retold (λ (t : Taken). pageRecord (t .counts)) (fedOf old page m .told)) oldRecord
+-- the returned number, the state from `old` to `new`, the lent memory from `before` to `after`, and the page's record from
+-- `out` to `end`: the state stands for the next reader
+pub record FedIn (old : List ℕ) (page : Bytes) (before : Lent) (number : ℕ) (new : List ℕ) (after : Lent)
+    (out end : List ℕ) : Type 0 where
+  pub feeds : Feeds (readings pageCrc) (readerFrom old) page before (toldFed number new end) after
+  pub state : new ≡ stored (retold (λ (t : Taken). numbersOf (t .reader)) (fedOf old page before .told)) old
+  pub counts : end ≡ stored (retold (λ (t : Taken). pageRecord (t .counts)) (fedOf old page before .told)) out

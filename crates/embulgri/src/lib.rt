@@ -2,9 +2,11 @@
 ghost use mathlib.Core.Path.{_≡_};
 ghost use Rattle.page_crc.specs.Crc.{crc};
 ghost use Rattle.tags_layout.specs.Finding.{toldPart};
-ghost use Rattle.stream.specs.Feed.{start as started, lentOf};
+ghost use Rattle.stream.specs.Feed.{start as started};
+ghost use Rattle.stream.specs.Lent.{atEntry, atExit};
 ghost use Rattle.feed_numbers.specs.Numbers.{numbersOf};
-ghost use Rattle.embulgri.specs.Answers.{PageIn, PageOut, PacketIn, HeadIn, HeadLaid, TagsIn, PartIn, VendorIn, CommentIn, GainIn, TagsOut, ClockAfter};
+ghost use Rattle.embulgri.specs.Answers.{PageIn, PageOut, PacketIn, HeadIn, HeadLaid, TagsIn, PartIn, VendorIn};
+ghost use Rattle.embulgri.specs.Answers.{CommentIn, GainIn, TagsOut, ClockAfter};
 ghost use Rattle.embulgri.specs.Feeding.{OpenedIn, pageRecord, FedIn};
 use head_reader::Verdict;
 use head_writer::HeadWritten;
@@ -65,7 +67,10 @@ pub extern "C" fn embulgri_page_write(
     out: &mut [u8],
     written: &mut u64,
 ) -> u32
-    ensures { λ r. ⌜ PageOut (record { flags = flags; granule = granule; serial = serial; sequence = sequence }) (now (lacing .entry)) (now (body .entry)) r (now (out .entry)) (now (out .exit)) (now (written .entry)) (now (written .exit)) ⌝ }
+    ensures { λ r. ⌜
+        PageOut (record { flags = flags; granule = granule; serial = serial; sequence = sequence })
+        (now (lacing .entry)) (now (body .entry)) r
+        (now (out .entry)) (now (out .exit)) (now (written .entry)) (now (written .exit)) ⌝ }
 {
     if flags > 7 {
         return refusal::number(Refusal::UnfitFields) as u32;
@@ -108,7 +113,9 @@ pub extern "C" fn embulgri_head_read(
     fields: &mut [u64; 8],
     mapping: &mut [u8; 255],
 ) -> u32
-    ensures { λ r. ⌜ HeadIn (now (packet .entry)) r (now (fields .entry)) (now (fields .exit)) (now (mapping .entry)) (now (mapping .exit)) ⌝ }
+    ensures { λ r. ⌜
+        HeadIn (now (packet .entry)) r
+        (now (fields .entry)) (now (fields .exit)) (now (mapping .entry)) (now (mapping .exit)) ⌝ }
 {
     let read = head_reader::read_head(packet);
     let verdict = read.verdict;
@@ -131,7 +138,9 @@ pub extern "C" fn embulgri_head_write(
     out: &mut [u8],
     written: &mut u64,
 ) -> u32
-    ensures { λ r. ⌜ HeadLaid (now (fields .entry)) (now (mapping .entry)) r (now (out .entry)) (now (out .exit)) (now (written .entry)) (now (written .exit)) ⌝ }
+    ensures { λ r. ⌜
+        HeadLaid (now (fields .entry)) (now (mapping .entry)) r
+        (now (out .entry)) (now (out .exit)) (now (written .entry)) (now (written .exit)) ⌝ }
 {
     if !head_numbers::numbers_fit(fields) {
         return refusal::number(Refusal::UnfitFields) as u32;
@@ -212,7 +221,9 @@ pub extern "C" fn embulgri_tags_write(
     out: &mut [u8],
     written: &mut u64,
 ) -> u32
-    ensures { λ r. ⌜ TagsOut (now (vendor .entry)) (now (text .entry)) (now (lengths .entry)) r (now (out .entry)) (now (out .exit)) (now (written .entry)) (now (written .exit)) ⌝ }
+    ensures { λ r. ⌜
+        TagsOut (now (vendor .entry)) (now (text .entry)) (now (lengths .entry)) r
+        (now (out .entry)) (now (out .exit)) (now (written .entry)) (now (written .exit)) ⌝ }
 {
     let wrote = tags_writer::write_tags(vendor, text, lengths, out);
     match wrote {
@@ -226,14 +237,16 @@ pub extern "C" fn embulgri_tags_write(
 
 // Adds a packet's length to the old clock's reading and to its exact count.
 #[no_mangle]
-pub extern "C" fn embulgri_clock_add(reading: &mut f32, count: &mut u64, length: u64) -> u32
-    ensures { λ r. ⌜ ClockAfter (record { reading = now (reading .entry); count = now (count .entry) }) length r (record { reading = now (reading .exit); count = now (count .exit) }) ⌝ }
+pub extern "C" fn embulgri_clock_add(reading: &mut f32, count: &mut u64, samples: u64) -> u32
+    ensures { λ r. ⌜
+        ClockAfter (record { reading = now (reading .entry); count = now (count .entry) }) samples r
+        (record { reading = now (reading .exit); count = now (count .exit) }) ⌝ }
 {
     let clock = Clock {
         reading: *reading,
         count: *count,
     };
-    let added = old_clock::add(clock, length);
+    let added = old_clock::add(clock, samples);
     match added {
         Added::Clock(next) => {
             *reading = next.reading;
@@ -288,7 +301,9 @@ pub extern "C" fn embulgri_feed(
     kept: &mut [u64],
     out: &mut [u64; 6],
 ) -> u32
-    ensures { λ r. ⌜ FedIn (now (state .entry)) (now (page .entry)) (lentOf (now (carry .entry)) (now (ends .entry)) (now (lengths .entry)) (now (kept .entry))) r (now (state .exit)) (lentOf (now (carry .exit)) (now (ends .exit)) (now (lengths .exit)) (now (kept .exit))) (now (out .entry)) (now (out .exit)) ⌝ }
+    ensures { λ r. ⌜
+        FedIn (now (state .entry)) (now (page .entry)) (atEntry carry ends lengths kept) r
+        (now (state .exit)) (atExit carry ends lengths kept) (now (out .entry)) (now (out .exit)) ⌝ }
 {
     match reader::feed_state(state, page, carry, ends, lengths, kept) {
         StateFed::Accepted(counts) => {

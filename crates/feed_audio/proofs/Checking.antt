@@ -13,28 +13,31 @@ use Rattle.octets.specs.Pick.{pick}
 use Rattle.octets.specs.Octets.{Bytes, total}
 use Rattle.octets.proofs.Tests.{both}
 use Rattle.refusal.specs.declared.Refusal.{Refusal}
-use Rattle.refusal.specs.declared.Refusal.the-variants.{ShortRoom, PacketTooLong, WrongGranule}
+use Rattle.refusal.specs.declared.Refusal.the-variants.{PacketTooLong, WrongGranule}
 use Rattle.refusal.specs.Checks.{firstOf}
 use Rattle.refusal.specs.Told.{Told}
 use Rattle.page_layout.specs.declared.PageHeader.{PageHeader}
 use Rattle.page_lacing.specs.Lacing.{unfinishedFrom, isBody}
-use Rattle.granule.specs.Judging.{granuleWrong}
+use Rattle.granule.specs.Judging.{granuleMax, granuleWrong}
 use Rattle.stream.specs.declared.Phase.{Phase}
 use Rattle.stream.specs.declared.Phase.the-variants.{First, Comment, Audio, Opened, Ended as Over}
 use Rattle.stream.specs.declared.Pending.{Pending}
 use Rattle.stream.specs.declared.Pending.the-variants.{Nothing, Held, Dropped}
 use Rattle.stream.specs.declared.Core.{Core}
+use Rattle.stream.specs.declared.PageFed.{PageFed}
 use Rattle.stream.specs.declared.Tally.{Tally}
 use Rattle.stream.specs.Page.{Page, completes, pageWith}
 use Rattle.stream.specs.Readings.{Readings}
 use Rattle.stream.specs.State.{State, isAudio}
-use Rattle.stream.specs.Packets.{Seen, seen, packetMax, tooLong, longFrom, isLong}
-use Rattle.stream.specs.Rules.{wrongShape, wrongGranule}
-use Rattle.stream.specs.Feed.{carriedIn, view, Lent, isShort, carryAfter, fedBy, readerOf, lentOf, FedIs, shortBy, Taken}
+use Rattle.stream.specs.Packets.{Seen, seen, tooLong, longFrom, isLong}
+use Rattle.limits.specs.Limits.{packetMax, listMax}
+use Rattle.stream.specs.Lent.{Lent, isShort, lentOf, shortBy}
+use Rattle.stream.specs.Feed.{carriedIn, view, carryAfter, fedBy, readerOf, FedIs, Taken, toldPage}
 use Rattle.stream.proofs.Pieces.{or-left, or-right, seen-completes}
-use Rattle.feed_audio.specs.declared.AudioFed.the-variants.{Refused}
-use Rattle.feed_audio.specs.Audio.{fits, audioChecks, audioFed, audioOn, feedAudio, toldAudio}
-use Rattle.feed_audio.specs.Code.{firstFrom, heldEnd, freshBy, lateChecks, lateFed, Fitting, Sounding, Silent}
+use Rattle.stream.specs.declared.PageFed.the-variants.{Refused}
+use Rattle.feed_audio.specs.declared.AudioFed.the-variants.{Page as OfPage, NotAudio}
+use Rattle.feed_audio.specs.Audio.{isAudioPage, audioChecks, audioFed, audioOn, FeedsAudio}
+use Rattle.feed_audio.specs.Code.{firstFrom, heldEnd, freshBy, checksPast11, fedPast11, Fitting, AnyCompletes, NoneCompletes}
 use Rattle.feed_audio.proofs.Splitting.{Ended, ways, ends-first}
 use Rattle.feed_audio.proofs.Seeing.{tail-le, tail-here}
 use Rattle.feed_audio.proofs.Feeding.{inAudio, in-audio}
@@ -51,50 +54,50 @@ is-audio Audio e = refl
 is-audio Opened e = absurd (false≢true e)
 is-audio Over e = absurd (false≢true e)
 
-module _ (k : Core) (t : Tally) (h : PageHeader) (l body carry ends sizes kept : List ℕ) where
+module _ (k : Core) (t : Tally) (h : PageHeader) (l body carry ends lengths kept : List ℕ) where
   abbrev lent : Lent
-  lent = lentOf carry ends sizes kept
+  lent = lentOf carry ends lengths kept
 
   abbrev page : Page
   page = pageWith h l body
 
   -- the test as the code makes it
   abbrev pub tested : Bool
-  tested = isAudio (k .phase) && (not (shortBy (length carry) (length ends) (length sizes) (length kept)) && isBody l body)
+  tested = isAudio (k .phase) && (not (shortBy (length carry) (length ends) (length lengths) (length kept)) && isBody l body)
 
-  pub fitting : tested ≡ true → Fitting k l body carry ends sizes kept
+  pub fitting : tested ≡ true → Fitting k l body carry ends lengths kept
   unfolding isBody
   fitting e =
       let a = both (isAudio (k .phase)) _ e in
       let b = both _ (isBody l body) (a .1) in
       let c = both (leb (length l) 255) (eqb (total l) (length body)) (b .1) in
       let short = not-true _ (b .0) in
-      let lists = or-right (ltb (length carry) 61440) _ short in
-      let later = or-right (ltb (length ends) 255) _ lists in
+      let lists = or-right (ltb (length carry) packetMax) _ short in
+      let later = or-right (ltb (length ends) listMax) _ lists in
       record {
         audio = is-audio (k .phase) (a .0);
         few = leb-true (length l) 255 (c .0);
         sums = eqb-true (total l) (length body) (c .1);
-        carry = ltb-false (length carry) 61440 (or-left (ltb (length carry) 61440) _ short);
-        ends = ltb-false (length ends) 255 (or-left (ltb (length ends) 255) _ lists);
-        sizes = ltb-false (length sizes) 255 (or-left (ltb (length sizes) 255) _ later);
-        kept = ltb-false (length kept) 255 (or-right (ltb (length sizes) 255) _ later);
+        carry = ltb-false (length carry) packetMax (or-left (ltb (length carry) packetMax) _ short);
+        ends = ltb-false (length ends) listMax (or-left (ltb (length ends) listMax) _ lists);
+        lengths = ltb-false (length lengths) listMax (or-left (ltb (length lengths) listMax) _ later);
+        kept = ltb-false (length kept) listMax (or-right (ltb (length lengths) listMax) _ later);
       }
 
-  pub unfit : (R : Readings) → tested ≡ false → FedIs (feedAudio R (readerOf k t) lent page) (toldAudio (Refused ShortRoom)) carry ends sizes kept
-  unfolding feedAudio fits isShort
-  unfit R e = rw e (record { told = refl; held = refl; ended = refl; sized = refl; keeps = refl })
+  pub not-due : (R : Readings) → tested ≡ false → FeedsAudio R (readerOf k t) page lent NotAudio lent
+  unfolding isAudioPage isShort
+  not-due R e = record { told = rw e; lent = rw e }
 
-  pub fit : (R : Readings) → tested ≡ true → {r : Told Taken} {c z s q : List ℕ}
-      → FedIs (audioOn R (readerOf k t) lent page) r c z s q → FedIs (feedAudio R (readerOf k t) lent page) r c z s q
-  unfolding feedAudio fits isShort
-  fit R e {r} {c} {z} {s} {q} o = rw e o
+  pub due : (R : Readings) → tested ≡ true → (f : PageFed) {after : Lent}
+      → FedIs (audioOn R (readerOf k t) lent page) (toldPage f) after → FeedsAudio R (readerOf k t) page lent (OfPage f) after
+  unfolding isAudioPage isShort
+  due R e f {after} o = record { told = rw e (ap some (o .told)); lent = rw e (o .lent) }
 
 -- ---- 9 and 11
 
-module _ (R : Readings) (k : Core) (t : Tally) (h : PageHeader) (l body carry ends sizes kept : List ℕ) (audio : k .phase ≡ Audio) where
+module _ (R : Readings) (k : Core) (t : Tally) (h : PageHeader) (l body carry ends lengths kept : List ℕ) (audio : k .phase ≡ Audio) where
   abbrev all : Lent
-  all = lentOf carry ends sizes kept
+  all = lentOf carry ends lengths kept
 
   abbrev whole : Page
   whole = pageWith h l body
@@ -109,49 +112,49 @@ module _ (R : Readings) (k : Core) (t : Tally) (h : PageHeader) (l body carry en
   long = isLong (carriedIn (k .pending) carry) l
 
   abbrev late : Option Refusal
-  late = firstOf (lateChecks R state whole sight)
+  late = firstOf (checksPast11 R state whole sight)
 
-  verdict : firstOf (audioChecks R state whole sight) ≡ pick long (some PacketTooLong) (pick (granuleWrong (firstFrom 0 l .ends) (h .granule)) (some WrongGranule) late)
-  unfolding firstOf wrongShape wrongGranule completes
+  verdict : firstOf (audioChecks R state whole sight) ≡ pick long (some PacketTooLong) (pick (granuleWrong granuleMax (firstFrom 0 l .ends) (h .granule)) (some WrongGranule) late)
+  unfolding firstOf completes
   verdict =
-      ap (λ (d : Bool). pick long (some PacketTooLong) (pick (granuleWrong d (h .granule)) (some WrongGranule) late)) (seen-completes state whole ∙ ends-first l)
+      ap (λ (d : Bool). pick long (some PacketTooLong) (pick (granuleWrong granuleMax d (h .granule)) (some WrongGranule) late)) (seen-completes state whole ∙ ends-first l)
 
-  audio-as : {r : Told Taken} {c e z q : List ℕ} (v : Option Refusal) → firstOf (audioChecks R state whole sight) ≡ v
-      → FedIs (fedBy v R (readerOf (inAudio k) t) all state whole sight) r c e z q → FedIs (audioOn R (readerOf k t) all whole) r c e z q
+  audio-as : {r : Told Taken} {after : Lent} (v : Option Refusal) → firstOf (audioChecks R state whole sight) ≡ v
+      → FedIs (fedBy v R (readerOf (inAudio k) t) all state whole sight) r after → FedIs (audioOn R (readerOf k t) all whole) r after
   unfolding audioFed
-  audio-as {r} {c} {e} {z} {q} v same o =
-      subst (λ (i : Core). FedIs (audioOn R (readerOf i t) all whole) r c e z q) (in-audio k audio)
-      (subst (λ (w : Option Refusal). FedIs (fedBy w R (readerOf (inAudio k) t) all state whole sight) r c e z q) (sym same) o)
+  audio-as {r} {after} v same o =
+      subst (λ (i : Core). FedIs (audioOn R (readerOf i t) all whole) r after) (in-audio k audio)
+      (subst (λ (w : Option Refusal). FedIs (fedBy w R (readerOf (inAudio k) t) all state whole sight) r after) (sym same) o)
 
-  pub too-long : TooLong ≡ scanBy (k .pending) l → FedIs (audioOn R (readerOf k t) all whole) (toldAudio (Refused PacketTooLong)) carry ends sizes kept
+  pub too-long : TooLong ≡ scanBy (k .pending) l → FedIs (audioOn R (readerOf k t) all whole) (toldPage (Refused PacketTooLong)) (lentOf carry ends lengths kept)
   unfolding carryAfter
   too-long e =
       let is : long ≡ true = scan-long (k .pending) l carry e in
       audio-as (some PacketTooLong)
-      (verdict ∙ ap (λ (b : Bool). pick b (some PacketTooLong) (pick (granuleWrong (firstFrom 0 l .ends) (h .granule)) (some WrongGranule) late)) is)
-      (record { told = refl; held = refl; ended = refl; sized = refl; keeps = refl })
+      (verdict ∙ ap (λ (b : Bool). pick b (some PacketTooLong) (pick (granuleWrong granuleMax (firstFrom 0 l .ends) (h .granule)) (some WrongGranule) late)) is)
+      (record { told = refl; lent = refl })
 
   module _ (rest : ℕ) (e : Rest rest ≡ scanBy (k .pending) l) where
     passed : (long ≡ false) × (rest ≡ tailBy (k .pending) l)
     passed = scan-short (k .pending) l carry rest e
 
-    not-long : firstOf (audioChecks R state whole sight) ≡ pick (granuleWrong (firstFrom 0 l .ends) (h .granule)) (some WrongGranule) late
+    not-long : firstOf (audioChecks R state whole sight) ≡ pick (granuleWrong granuleMax (firstFrom 0 l .ends) (h .granule)) (some WrongGranule) late
     not-long =
-        verdict ∙ ap (λ (b : Bool). pick b (some PacketTooLong) (pick (granuleWrong (firstFrom 0 l .ends) (h .granule)) (some WrongGranule) late)) (passed .0)
+        verdict ∙ ap (λ (b : Bool). pick b (some PacketTooLong) (pick (granuleWrong granuleMax (firstFrom 0 l .ends) (h .granule)) (some WrongGranule) late)) (passed .0)
 
-    pub wrong-granule : granuleWrong (firstFrom 0 l .ends) (h .granule) ≡ true
-        → FedIs (audioOn R (readerOf k t) all whole) (toldAudio (Refused WrongGranule)) carry ends sizes kept
+    pub wrong-granule : granuleWrong granuleMax (firstFrom 0 l .ends) (h .granule) ≡ true
+        → FedIs (audioOn R (readerOf k t) all whole) (toldPage (Refused WrongGranule)) (lentOf carry ends lengths kept)
     unfolding carryAfter
     wrong-granule w =
         audio-as (some WrongGranule) (not-long ∙ ap (λ (b : Bool). pick b (some WrongGranule) late) w)
-        (record { told = refl; held = refl; ended = refl; sized = refl; keeps = refl })
+        (record { told = refl; lent = refl })
 
-    pub past-eleven : granuleWrong (firstFrom 0 l .ends) (h .granule) ≡ false → {r : Told Taken} {c s z q : List ℕ}
-        → FedIs (lateFed R (readerOf k t) all whole) r c s z q → FedIs (audioOn R (readerOf k t) all whole) r c s z q
-    unfolding lateFed
-    past-eleven w {r} {c} {s} {z} {q} o =
+    pub past-eleven : granuleWrong granuleMax (firstFrom 0 l .ends) (h .granule) ≡ false → {r : Told Taken} {after : Lent}
+        → FedIs (fedPast11 R (readerOf k t) all whole) r after → FedIs (audioOn R (readerOf k t) all whole) r after
+    unfolding fedPast11
+    past-eleven w {r} {after} o =
         audio-as late (not-long ∙ ap (λ (b : Bool). pick b (some WrongGranule) late) w)
-        (subst (λ (i : Core). FedIs (lateFed R (readerOf i t) all whole) r c s z q) (sym (in-audio k audio)) o)
+        (subst (λ (i : Core). FedIs (fedPast11 R (readerOf i t) all whole) r after) (sym (in-audio k audio)) o)
 
 -- ---- what the two ways ask
 
@@ -162,8 +165,9 @@ held-short (Held n) l carry e s =
     (or-left (tooLong (n + firstFrom 0 l .bytes)) _ (sym (e .long n) ∙ ap (λ (m : ℕ). longFrom m l) (add-zero n) ∙ s))
 held-short Dropped l carry e s = omega arith
 
-granule-small : (done : Bool) (g : ℕ) → done ≡ true → granuleWrong done g ≡ false → g < 2 ^ 63
-granule-small true g t e = omega (arith, ltb-false 9223372036854775807 g e)
+granule-small : (done : Bool) (g : ℕ) → done ≡ true → granuleWrong granuleMax done g ≡ false → g < 2 ^ 63
+unfolding granuleWrong
+granule-small true g t e = omega (arith, ltb-false granuleMax g e)
 granule-small false g t e = absurd (false≢true t)
 
 fresh-fits : (pending : Pending) (l : Bytes) → freshBy pending (tailBy pending l) ≤ total l
@@ -171,14 +175,14 @@ fresh-fits Nothing l = omega (arith, tail-le l 0)
 fresh-fits (Held n) l = omega arith
 fresh-fits Dropped l = omega arith
 
-module _ (k : Core) (h : PageHeader) (l body carry ends sizes kept : List ℕ) (f : Fitting k l body carry ends sizes kept) (rest : ℕ)
+module _ (k : Core) (h : PageHeader) (l body carry ends lengths kept : List ℕ) (f : Fitting k l body carry ends lengths kept) (rest : ℕ)
     (e : Rest rest ≡ scanBy (k .pending) l) where
   shorts : (isLong (carriedIn (k .pending) carry) l ≡ false) × (rest ≡ tailBy (k .pending) l)
   shorts = scan-short (k .pending) l carry rest e
 
-  pub sounding : firstFrom 0 l .ends ≡ true → granuleWrong (firstFrom 0 l .ends) (h .granule) ≡ false
-      → Sounding k h (firstFrom 0 l) rest l body carry ends sizes kept
-  sounding done g =
+  pub any-completes : firstFrom 0 l .ends ≡ true → granuleWrong granuleMax (firstFrom 0 l .ends) (h .granule) ≡ false
+      → AnyCompletes k h (firstFrom 0 l) rest l body carry ends lengths kept
+  any-completes done g =
       let s : Ended 0 l (firstFrom 0 l) = ways 0 l .0 done in
       let tail : rest ≡ unfinishedFrom 0 l = shorts .1 ∙ tail-here l body carry (f .sums) s (k .pending) in
       record {
@@ -200,9 +204,9 @@ module _ (k : Core) (h : PageHeader) (l body carry ends sizes kept : List ℕ) (
       }
 
   module _ (undone : firstFrom 0 l .ends ≡ false) where
-    pub silence : Silent k (firstFrom 0 l .bytes) rest l body carry ends sizes kept
-    silence = record { fitting = f; piece = refl; tail = shorts .1; undone = undone }
+    pub none-completes : NoneCompletes k (firstFrom 0 l .bytes) rest l body carry ends lengths kept
+    none-completes = record { fitting = f; piece = refl; tail = shorts .1; undone = undone }
 
-    pub silent-fits : (firstFrom 0 l .bytes ≤ length body) × (freshBy (k .pending) rest ≤ length body)
-    silent-fits =
+    pub piece-fits : (firstFrom 0 l .bytes ≤ length body) × (freshBy (k .pending) rest ≤ length body)
+    piece-fits =
         (omega (arith, ways 0 l .1 undone .sums, f .sums), rw (shorts .1) (omega (arith, fresh-fits (k .pending) l, f .sums)))

@@ -22,16 +22,18 @@ use Rattle.stream.specs.declared.Pending.{Pending}
 use Rattle.stream.specs.declared.Core.{Core}
 use Rattle.stream.specs.declared.Tally.{Tally}
 use Rattle.stream.specs.declared.Counts.{Counts}
-use Rattle.stream.specs.Page.{Page, isLastPage, last, whole, rest, pageWith}
+use Rattle.stream.specs.Page.{Page, last, whole, rest, pageWith}
+use Rattle.page_flags.specs.Flags.{isLastPage}
+use Rattle.stream.specs.Lent.{Lent, lentOf}
 use Rattle.stream.specs.Readings.{Readings}
 use Rattle.stream.specs.State.{Carried, State}
 use Rattle.stream.specs.Packets.{begun, audioPackets, lengthsOf}
 use Rattle.stream.specs.Rules.{packetChecks, timeChecks, startOn, nextOn}
-use Rattle.stream.specs.Feed.{Reader, carriedIn, pendingOf, view, Entry, entries, entriesOn, countsOn, skipOn, Lent, firstPiece, appended, carryAfter, listed, fedBy, readerOf, noCounts, FedIs}
+use Rattle.stream.specs.Feed.{Reader, carriedIn, pendingOf, view, Entry, entries, entriesOn, countsOn, skipOn, firstPiece, appended, carryAfter, listed, fedBy, readerOf, noCounts, FedIs, toldPage}
+use Rattle.stream.proofs.Lent.{same-lent}
 use Rattle.stream.proofs.Step.{gives≢refuses}
-use Rattle.feed_audio.specs.declared.AudioFed.the-variants.{Accepted, Refused}
-use Rattle.feed_audio.specs.Audio.{toldAudio}
-use Rattle.feed_audio.specs.Code.{Lists, countsBy, nextCore, lateOn}
+use Rattle.stream.specs.declared.PageFed.the-variants.{Accepted, Refused}
+use Rattle.feed_audio.specs.Code.{Lists, countsBy, nextCore, onPast11}
 use Rattle.feed_audio.proofs.Verdicts.{judging, placing, late}
 use Rattle.feed_audio.proofs.Seeing.{completing, going}
 
@@ -44,7 +46,7 @@ in-audio k e =
     ap (λ (ph : Phase). record { phase = ph; pending = k .pending; position = k .position; serial = k .serial; next = k .next; streams = k .streams; preskip = k .preskip }) (sym e)
 
 same-told : {a b : Core} {x y : Tally} {c d : Counts} → a ≡ b → x ≡ y → c ≡ d
-    → toldAudio (Accepted a x c) ≡ gives (record { reader = record { core = b; tally = y }; counts = d })
+    → toldPage (Accepted a x c) ≡ gives (record { reader = record { core = b; tally = y }; counts = d })
 same-told e f g = cc
 
 same-gives : {a b : Placed} → _≡_ {A = Told Placed} (gives a) (gives b) → a ≡ b
@@ -76,24 +78,21 @@ module _ (R : Readings) (k : Core) (t : Tally) (h : PageHeader) (l body : Bytes)
     checks = packetChecks R (k .streams) ps ++ judging k h lengths
 
     pub refused : (why : Refusal) {now : Bytes} → refuses (numberOf why) ≡ decided (firstOf checks) (placing k h lengths) → now ≡ joined
-        → FedIs (lateOn R reader m state page (completing ps r)) (toldAudio (Refused why)) now (m .ends) (m .sizes) (m .kept)
+        → FedIs (onPast11 R reader m state page (completing ps r)) (toldPage (Refused why)) (lentOf now (m .ends) (m .lengths) (m .kept))
     unfolding audioPackets timeChecks lengthsOf last carryAfter
     refused why {now} q c = by (firstOf checks) refl q
       where
         by : (v : Option Refusal) → firstOf checks ≡ v → refuses (numberOf why) ≡ decided v (placing k h lengths)
-            → FedIs (fedBy v R reader m state page (completing ps r)) (toldAudio (Refused why)) now (m .ends) (m .sizes) (m .kept)
+            → FedIs (fedBy v R reader m state page (completing ps r)) (toldPage (Refused why)) (lentOf now (m .ends) (m .lengths) (m .kept))
         by none e q = absurd (gives≢refuses (sym q))
         by (some n) e q = record {
           told = ap refuses (ap numberIn q);
-          held = rw (late R k h (k .streams) ps lengths n e) c;
-          ended = refl;
-          sized = refl;
-          keeps = refl;
+          lent = same-lent (rw (late R k h (k .streams) ps lengths n e) c) refl refl refl;
         }
 
     module _ (n d : ℕ) (w : Placed) (lens : List ℕ) {left : ℕ} {es ss ks : List ℕ} {later : Bytes} {after : Core} {counts : Counts} (next : Pending)
         (q : gives w ≡ decided (firstOf checks) (placing k h lengths)) (ds : take n lens ≡ lengths) (few : n ≤ length lens) (adds : d ≡ total (take n lens))
-        (x : Lists left es ss ks (t .skip) (take n lens) (entries (t .skip) (isLastPage (h .flags)) (h .granule) (w .from) (take n lens)) (m .ends) (m .sizes) (m .kept))
+        (x : Lists left es ss ks (t .skip) (take n lens) (entries (t .skip) (isLastPage (h .flags)) (h .granule) (w .from) (take n lens)) (m .ends) (m .lengths) (m .kept))
         (c : later ≡ carryAfter none state page (m .carry)) (a : after ≡ nextCore k h next (At (h .granule))) (p : pendingOf (begun r) ≡ next)
         (s : counts ≡ countsBy n d w (t .skip) (isLastPage (h .flags)) (h .granule)) where
       sums : d ≡ total lengths
@@ -115,33 +114,28 @@ module _ (R : Readings) (k : Core) (t : Tally) (h : PageHeader) (l body : Bytes)
           s ∙ ap (λ (i : ℕ). countsBy i d w (t .skip) (isLastPage (h .flags)) (h .granule)) count
           ∙ ap₂ (λ (i : ℕ) (z : Placed). countsBy (length lengths) i z (t .skip) (isLastPage (h .flags)) (h .granule)) sums e
 
-      pub accepted : FedIs (lateOn R reader m state page (completing ps r)) (toldAudio (Accepted after (record { skip = left }) counts)) later es ss ks
+      pub accepted : FedIs (onPast11 R reader m state page (completing ps r)) (toldPage (Accepted after (record { skip = left }) counts)) (lentOf later es ss ks)
       unfolding audioPackets timeChecks lengthsOf last nextOn skipOn
       accepted = by (firstOf checks) q
         where
           by : (v : Option Refusal) → gives w ≡ decided v (placing k h lengths)
-              → FedIs (fedBy v R reader m state page (completing ps r)) (toldAudio (Accepted after (record { skip = left }) counts)) later es ss ks
+              → FedIs (fedBy v R reader m state page (completing ps r)) (toldPage (Accepted after (record { skip = left }) counts)) (lentOf later es ss ks)
           by none q =
               let e : w ≡ placing k h lengths = same-gives q in
               record {
                 told = same-told (a ∙ ap (λ (z : Pending). nextCore k h z (At (h .granule))) (sym p))
                     (ap (λ (z : ℕ). record { skip = z }) (x .skips ∙ ap (λ (z : List ℕ). t .skip - total z) ds)) (as-counted e);
-                held = c;
-                ended = as-listed (λ (e : Entry). e .end) (m .ends) e (x .ended);
-                sized = as-listed (λ (e : Entry). e .size) (m .sizes) e (x .sized);
-                keeps = as-listed (λ (e : Entry). e .kept) (m .kept) e (x .keeps);
+                lent = same-lent c (as-listed (λ (e : Entry). e .end) (m .ends) e (x .ended))
+                    (as-listed (λ (e : Entry). e .samples) (m .lengths) e (x .sized)) (as-listed (λ (e : Entry). e .kept) (m .kept) e (x .keeps));
               }
           by (some n) q = absurd (gives≢refuses q)
 
   -- ---- where none does
 
-  pub silent : {later : Bytes} {after : Core} (left : Carried) (next : Pending) → later ≡ carryAfter none state page (m .carry) → after ≡ nextCore k h next (k .position)
-      → pendingOf left ≡ next → FedIs (lateOn R reader m state page (going left)) (toldAudio (Accepted after t noCounts)) later (m .ends) (m .sizes) (m .kept)
+  pub piece-fed : {later : Bytes} {after : Core} (left : Carried) (next : Pending) → later ≡ carryAfter none state page (m .carry) → after ≡ nextCore k h next (k .position)
+      → pendingOf left ≡ next → FedIs (onPast11 R reader m state page (going left)) (toldPage (Accepted after t noCounts)) (lentOf later (m .ends) (m .lengths) (m .kept))
   unfolding audioPackets packetChecks timeChecks firstOf lengthsOf last nextOn skipOn countsOn entriesOn entries total keptOf skippedOf trimmedOf tally
-  silent left next c a p = record {
+  piece-fed left next c a p = record {
     told = same-told (a ∙ ap (λ (z : Pending). nextCore k h z (k .position)) (sym p)) (ap (λ (z : ℕ). record { skip = z }) (omega arith)) refl;
-    held = c;
-    ended = refl;
-    sized = refl;
-    keeps = refl;
+    lent = same-lent c refl refl refl;
   }

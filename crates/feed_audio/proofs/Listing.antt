@@ -42,9 +42,9 @@ all-stored {f} {n} {goal} {old} {list} {i} s e size =
 
 -- ---- the three lists together
 
-pub record Listing (skip₀ : ℕ) (last : Bool) (g : ℕ) (goal : List Entry) (ds : List ℕ) (n : ℕ) (ends₀ sizes₀ kept₀ ends sizes kept : List ℕ) (at left i : ℕ) : Type 0 where
+pub record Listing (skip₀ : ℕ) (last : Bool) (g : ℕ) (goal : List Entry) (ds : List ℕ) (n : ℕ) (ends₀ lengths₀ kept₀ ends lengths kept : List ℕ) (at left i : ℕ) : Type 0 where
   pub ended : Stored (λ (e : Entry). e .end) n goal (entries left last g at (drop i ds)) ends₀ ends i
-  pub sized : Stored (λ (e : Entry). e .size) n goal (entries left last g at (drop i ds)) sizes₀ sizes i
+  pub sized : Stored (λ (e : Entry). e .samples) n goal (entries left last g at (drop i ds)) lengths₀ lengths i
   pub keeps : Stored (λ (e : Entry). e .kept) n goal (entries left last g at (drop i ds)) kept₀ kept i
   pub skips : left - total (drop i ds) ≡ skip₀ - total ds
   pub fits : at + total (drop i ds) < 2 ^ 64
@@ -53,10 +53,10 @@ pub record Listing (skip₀ : ℕ) (last : Bool) (g : ℕ) (goal : List Entry) (
   pub goals : length goal ≡ n
 
 abbrev entryAt : ℕ → Bool → ℕ → ℕ → ℕ → Entry
-entryAt left last g at d = record { end = at + d; size = d; kept = keptOf left last g at d }
+entryAt left last g at d = record { end = at + d; samples = d; kept = keptOf left last g at d }
 
-module _ {skip₀ : ℕ} {last : Bool} {g : ℕ} {goal : List Entry} {ds : List ℕ} {n : ℕ} {ends₀ sizes₀ kept₀ ends sizes kept : List ℕ} {at left i : ℕ}
-    (s : Listing skip₀ last g goal ds n ends₀ sizes₀ kept₀ ends sizes kept at left i) (h : i < n) {d : ℕ} (e : d ≡ getD ds i 0) where
+module _ {skip₀ : ℕ} {last : Bool} {g : ℕ} {goal : List Entry} {ds : List ℕ} {n : ℕ} {ends₀ lengths₀ kept₀ ends lengths kept : List ℕ} {at left i : ℕ}
+    (s : Listing skip₀ last g goal ds n ends₀ lengths₀ kept₀ ends lengths kept at left i) (h : i < n) {d : ℕ} (e : d ≡ getD ds i 0) where
   total-after : total (drop i ds) ≡ d + total (drop (i + 1) ds)
   total-after = total-next ds i d (omega (arith, s .count)) e
 
@@ -67,8 +67,8 @@ module _ {skip₀ : ℕ} {last : Bool} {g : ℕ} {goal : List Entry} {ds : List 
   pub fits-next : at + d < 2 ^ 64
   fits-next = omega (arith, total-after, s .fits)
 
-  pub lists : n ≤ length ends₀ → n ≤ length sizes₀ → n ≤ length kept₀
-      → Listing skip₀ last g goal ds n ends₀ sizes₀ kept₀ (set ends i (at + d)) (set sizes i d) (set kept i (keptOf left last g at d)) (at + d) (left - d) (i + 1)
+  pub lists : n ≤ length ends₀ → n ≤ length lengths₀ → n ≤ length kept₀
+      → Listing skip₀ last g goal ds n ends₀ lengths₀ kept₀ (set ends i (at + d)) (set lengths i d) (set kept i (keptOf left last g at d)) (at + d) (left - d) (i + 1)
   lists p q r = record {
     ended = stores (rw entries-next at (s .ended)) h p;
     sized = stores (rw entries-next at (s .sized)) h q;
@@ -81,10 +81,10 @@ module _ {skip₀ : ℕ} {last : Bool} {g : ℕ} {goal : List Entry} {ds : List 
   }
 
 -- at the end nothing is left
-pub all-listed : {skip₀ : ℕ} {last : Bool} {g : ℕ} {goal : List Entry} {ds : List ℕ} {n : ℕ} {ends₀ sizes₀ kept₀ ends sizes kept : List ℕ} {at left i : ℕ}
-    → Listing skip₀ last g goal ds n ends₀ sizes₀ kept₀ ends sizes kept at left i → n ≤ i → Lists left ends sizes kept skip₀ ds goal ends₀ sizes₀ kept₀
+pub all-listed : {skip₀ : ℕ} {last : Bool} {g : ℕ} {goal : List Entry} {ds : List ℕ} {n : ℕ} {ends₀ lengths₀ kept₀ ends lengths kept : List ℕ} {at left i : ℕ}
+    → Listing skip₀ last g goal ds n ends₀ lengths₀ kept₀ ends lengths kept at left i → n ≤ i → Lists left ends lengths kept skip₀ ds goal ends₀ lengths₀ kept₀
 unfolding entries total
-all-listed {skip₀} {last} {g} {goal} {ds} {n} {ends₀} {sizes₀} {kept₀} {ends} {sizes} {kept} {at} {left} {i} s h =
+all-listed {skip₀} {last} {g} {goal} {ds} {n} {ends₀} {lengths₀} {kept₀} {ends} {lengths} {kept} {at} {left} {i} s h =
     let e : i ≡ n = omega (arith, s .within) in
     let z : drop i ds ≡ [] = ap (λ (k : ℕ). drop k ds) (e ∙ sym (s .count)) ∙ drop-length ds in
     record {
@@ -94,9 +94,9 @@ all-listed {skip₀} {last} {g} {goal} {ds} {n} {ends₀} {sizes₀} {kept₀} {
       skips = omega (arith, rw z at (s .skips));
     }
 
-pub begins : (skip : ℕ) (last : Bool) (g from n : ℕ) (lens ends sizes kept : List ℕ) → n ≤ length lens → from + total (take n lens) < 2 ^ 64
-    → Listing skip last g (entries skip last g from (take n lens)) (take n lens) n ends sizes kept ends sizes kept from skip 0
-begins skip last g from n lens ends sizes kept h fit =
+pub begins : (skip : ℕ) (last : Bool) (g from n : ℕ) (lens ends lengths kept : List ℕ) → n ≤ length lens → from + total (take n lens) < 2 ^ 64
+    → Listing skip last g (entries skip last g from (take n lens)) (take n lens) n ends lengths kept ends lengths kept from skip 0
+begins skip last g from n lens ends lengths kept h fit =
     let size : length (take n lens) ≡ n = length-take-le n lens h in
     record {
       ended = record { front = refl; rest = refl; size = refl };

@@ -15,20 +15,21 @@ use Rattle.stream.specs.declared.Phase.the-variants.{Audio}
 use Rattle.stream.specs.declared.Core.{Core}
 use Rattle.stream.specs.declared.Tally.{Tally}
 use Rattle.stream.specs.declared.Counts.{Counts}
-use Rattle.stream.specs.Page.{isLastPage, wholeFrom, restFrom, whole, rest, pageWith}
+use Rattle.stream.specs.Page.{wholeFrom, restFrom, whole, rest, pageWith}
+use Rattle.page_flags.specs.Flags.{isLastPage}
+use Rattle.stream.specs.Lent.{Lent, lentOf}
 use Rattle.stream.specs.Readings.{readings}
 use Rattle.stream.specs.State.{Carried}
 use Rattle.stream.specs.Packets.{Seen, join, seen}
-use Rattle.stream.specs.Feed.{carriedIn, view, entries, Lent, firstPiece, appended, withRest, carryAfter, readerOf, lentOf, noCounts, FedIs, Taken}
-use Rattle.feed_audio.specs.declared.AudioFed.the-variants.{Accepted, Refused}
+use Rattle.stream.specs.Feed.{carriedIn, view, entries, firstPiece, appended, withRest, carryAfter, readerOf, noCounts, FedIs, Taken, toldPage}
+use Rattle.stream.specs.declared.PageFed.the-variants.{Accepted, Refused}
 use Rattle.feed_audio.specs.declared.packets.Piece.{Piece}
 use Rattle.feed_audio.specs.declared.times.Timed.the-variants.{Packets, Refused as Untimed}
-use Rattle.feed_audio.specs.Audio.{toldAudio}
-use Rattle.feed_audio.specs.Code.{firstFrom, countOf, measured, packetsBy, heldEnd, timedBy, Times, Lists, countsBy, restOf, begunBy, stillBy, freshBy, nextCore, lateOn, lateFed, Sounding, Silent}
+use Rattle.feed_audio.specs.Code.{firstFrom, countOf, measured, packetsBy, heldEnd, timedBy, Times, Lists, countsBy, restOf, begunBy, stillBy, freshBy, nextCore, onPast11, fedPast11, AnyCompletes, NoneCompletes}
 use Rattle.feed_audio.proofs.Splitting.{Ended, Open, ways}
 use Rattle.feed_audio.proofs.Seeing.{completing, going, ended, first-ended, rest-ended, begun-rest, first-open, rest-open, Carries, carries}
 use Rattle.feed_audio.proofs.Verdicts.{judges, lengths-are}
-use Rattle.feed_audio.proofs.Feeding.{inAudio, in-audio, refused, accepted, silent}
+use Rattle.feed_audio.proofs.Feeding.{inAudio, in-audio, refused, accepted, piece-fed}
 use Rattle.feed_lacing.specs.Scan.{tailBy}
 
 -- what the place says of the trimmed samples
@@ -37,20 +38,20 @@ pub place-trimmed : (k : Core) (h : PageHeader) {n d : ℕ} {w : Placed} {lens :
 unfolding placed
 place-trimmed k h {n} {d} {w} m = rw (m .runs .place)
 
-module _ (crc : Bytes → ℕ) (k : Core) (t : Tally) (h : PageHeader) (l body carry ends sizes kept : List ℕ) where
+module _ (crc : Bytes → ℕ) (k : Core) (t : Tally) (h : PageHeader) (l body carry ends lengths kept : List ℕ) where
   abbrev lent : Lent
-  lent = lentOf carry ends sizes kept
+  lent = lentOf carry ends lengths kept
 
   abbrev carried : Carried
   carried = carriedIn (k .pending) carry
 
   abbrev lateIn : Core → Seen → Told Taken → List ℕ → List ℕ → List ℕ → List ℕ → Type 0
-  lateIn q x r c e z w = FedIs (lateOn (readings crc) (readerOf q t) lent (view q carry) (pageWith h l body) x) r c e z w
+  lateIn q x r c e z w = FedIs (onPast11 (readings crc) (readerOf q t) lent (view q carry) (pageWith h l body) x) r (lentOf c e z w)
 
   -- from what is seen to the page, and to the state as it is
   late-by : {r : Told Taken} {c e z w : List ℕ} (x : Seen) → k .phase ≡ Audio → join carried (wholeFrom 0 l body) (restFrom 0 l body) ≡ x
-      → lateIn (inAudio k) x r c e z w → FedIs (lateFed (readings crc) (readerOf k t) lent (pageWith h l body)) r c e z w
-  unfolding lateFed seen whole rest
+      → lateIn (inAudio k) x r c e z w → FedIs (fedPast11 (readings crc) (readerOf k t) lent (pageWith h l body)) r (lentOf c e z w)
+  unfolding fedPast11 seen whole rest
   late-by {r} {c} {e} {z} {w} x audio sees o =
       subst (λ (q : Core). lateIn q (join (carriedIn (q .pending) carry) (wholeFrom 0 l body) (restFrom 0 l body)) r c e z w) (in-audio k audio)
       (subst (λ (y : Seen). lateIn (inAudio k) y r c e z w) (sym sees) o)
@@ -66,7 +67,7 @@ module _ (crc : Bytes → ℕ) (k : Core) (t : Tally) (h : PageHeader) (l body c
   abbrev tail : ℕ
   tail = tailBy (k .pending) l
 
-  module _ {first : Piece} {left : ℕ} (s : Sounding k h first left l body carry ends sizes kept) (few : k .streams ≤ 255)
+  module _ {first : Piece} {left : ℕ} (s : AnyCompletes k h first left l body carry ends lengths kept) (few : k .streams ≤ 255)
       {now : List ℕ} (n : now ≡ appended Audio carried (take (first .bytes) body) carry) where
     splits : Ended 0 l (firstFrom 0 l)
     splits = ways 0 l .0 (s .done)
@@ -86,23 +87,23 @@ module _ (crc : Bytes → ℕ) (k : Core) (t : Tally) (h : PageHeader) (l body c
     appends : now ≡ appended Audio carried (firstPiece (wholeFrom 0 l body) (restFrom 0 l body)) carry
     appends = now-joined ∙ ap (λ (b : Bytes). appended Audio carried b carry) (sym (first-ended l body carry (s .fitting .sums) splits))
 
-    pub sound-refused : {lens : List ℕ} {why : Refusal}
+    pub completing-refused : {lens : List ℕ} {why : Refusal}
         → Times (Untimed why) lens k h (measured (countOf (k .streams)) (packetsBy (k .pending) (first .values) (first .bytes) l body now))
-        → FedIs (lateFed (readings crc) (readerOf k t) lent (pageWith h l body)) (toldAudio (Refused why)) now ends sizes kept
+        → FedIs (fedPast11 (readings crc) (readerOf k t) lent (pageWith h l body)) (toldPage (Refused why)) (lentOf now ends lengths kept)
     unfolding whole rest
-    sound-refused {lens} {why} m =
+    completing-refused {lens} {why} m =
         let told = m .tells ∙ ap (λ (ps : List Bytes). timedBy (measured (countOf (k .streams)) ps) k h) packets-are ∙ judges crc k h few packets in
         late-by (completing packets (restOf tail body)) (s .fitting .audio) sees
         (refused (readings crc) k t h l body lent packets (restOf tail body) why told appends)
 
-    pub sound-accepted : {lens : List ℕ} {i d skip : ℕ} {w : Placed} {es ss ks later : List ℕ} {after : Core} {counts : Counts}
+    pub completing-accepted : {lens : List ℕ} {i d skip : ℕ} {w : Placed} {es ss ks later : List ℕ} {after : Core} {counts : Counts}
         → Times (Packets i d w) lens k h (measured (countOf (k .streams)) (packetsBy (k .pending) (first .values) (first .bytes) l body now))
-        → Lists skip es ss ks (t .skip) (take i lens) (entries (t .skip) (isLastPage (h .flags)) (h .granule) (w .from) (take i lens)) ends sizes kept
+        → Lists skip es ss ks (t .skip) (take i lens) (entries (t .skip) (isLastPage (h .flags)) (h .granule) (w .from) (take i lens)) ends lengths kept
         → later ≡ withRest (restOf left body) now → counts ≡ countsBy i d w (t .skip) (isLastPage (h .flags)) (h .granule)
         → after ≡ nextCore k h (begunBy left) (At (h .granule))
-        → FedIs (lateFed (readings crc) (readerOf k t) lent (pageWith h l body)) (toldAudio (Accepted after (record { skip = skip }) counts)) later es ss ks
+        → FedIs (fedPast11 (readings crc) (readerOf k t) lent (pageWith h l body)) (toldPage (Accepted after (record { skip = skip }) counts)) (lentOf later es ss ks)
     unfolding whole rest carryAfter
-    sound-accepted {lens} {i} {d} {skip} {w} {es} {ss} {ks} {later} {after} {counts} m x c z a =
+    completing-accepted {lens} {i} {d} {skip} {w} {es} {ss} {ks} {later} {after} {counts} m x c z a =
         let told = m .tells ∙ ap (λ (ps : List Bytes). timedBy (measured (countOf (k .streams)) ps) k h) packets-are ∙ judges crc k h few packets in
         let ds = lengths-are crc (k .streams) few packets (take i lens) (m .runs .lengths ∙ ap (measured (countOf (k .streams))) packets-are) in
         let left-is : left ≡ tail = s .scanned .tail in
@@ -115,12 +116,12 @@ module _ (crc : Bytes → ℕ) (k : Core) (t : Tally) (h : PageHeader) (l body c
 
   -- ---- where none does
 
-  pub silent-page : (bytes left : ℕ) {now later : List ℕ} {after : Core} → Silent k bytes left l body carry ends sizes kept
+  pub piece-page : (bytes left : ℕ) {now later : List ℕ} {after : Core} → NoneCompletes k bytes left l body carry ends lengths kept
       → now ≡ appended Audio carried (take bytes body) carry → later ≡ withRest (restOf (freshBy (k .pending) left) body) now
       → after ≡ nextCore k h (stillBy (k .pending) left) (k .position)
-      → FedIs (lateFed (readings crc) (readerOf k t) lent (pageWith h l body)) (toldAudio (Accepted after t noCounts)) later ends sizes kept
+      → FedIs (fedPast11 (readings crc) (readerOf k t) lent (pageWith h l body)) (toldPage (Accepted after t noCounts)) (lentOf later ends lengths kept)
   unfolding whole rest carryAfter
-  silent-page bytes left {now} {later} {after} s n c a =
+  piece-page bytes left {now} {later} {after} s n c a =
       let o : Open 0 l (firstFrom 0 l) = ways 0 l .1 (s .undone) in
       let on : Carries l body carry (s .fitting .sums) o (k .pending) = carries l body carry (s .fitting .sums) o (k .pending) in
       let appends = n ∙ ap (λ (b : ℕ). appended Audio carried (take b body) carry) (s .piece)
@@ -128,5 +129,5 @@ module _ (crc : Bytes → ℕ) (k : Core) (t : Tally) (h : PageHeader) (l body c
       let later-is =
       c ∙ ap₂ withRest (ap (λ (n : ℕ). restOf (freshBy (k .pending) n) body) (s .tail) ∙ sym (rest-open l body carry (s .fitting .sums) o (k .pending))) appends in
       late-by (going (on .left)) (s .fitting .audio) (on .seen)
-      (silent (readings crc) k t h l body lent (on .left) (stillBy (k .pending) left) later-is a
+      (piece-fed (readings crc) k t h l body lent (on .left) (stillBy (k .pending) left) later-is a
       (on .still ∙ ap (stillBy (k .pending)) (sym (s .tail))))

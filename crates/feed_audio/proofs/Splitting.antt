@@ -16,7 +16,7 @@ use Rattle.stream.specs.Page.{ends, wholeFrom}
 use Rattle.stream.specs.Packets.{tooLong, longFrom, afterFirst}
 use Rattle.stream.proofs.Pieces.{onwards}
 use Rattle.feed_audio.specs.declared.packets.Piece.{Piece}
-use Rattle.feed_audio.specs.Code.{firstFrom, further}
+use Rattle.feed_audio.specs.Code.{firstFrom, oneMore}
 use Rattle.feed_lacing.proofs.Scanning.{long-ends, long-goes-on}
 
 -- the first piece f ends a packet: what is left is cut alike
@@ -53,7 +53,7 @@ module _ (n v : ℕ) (l : Bytes) where
     done = rw t;
   }
 
-  ends-later : ltb v 255 ≡ false → (f : Piece) → Ended (n + v) l f → Ended n (v ∷ l) (further f)
+  ends-later : ltb v 255 ≡ false → (f : Piece) → Ended (n + v) l f → Ended n (v ∷ l) (oneMore f)
   unfolding cutFrom unfinishedFrom total afterFirst ends
   ends-later t f e = record {
     whole = λ (body : Bytes). (rw (add-one (f .values)) (ap (λ (b : Bool). onwards b (n + v) l body .whole) t ∙ e .whole body));
@@ -66,7 +66,7 @@ module _ (n v : ℕ) (l : Bytes) where
     done = rw t (e .done);
   }
 
-  open-later : ltb v 255 ≡ false → (f : Piece) → Open (n + v) l f → Open n (v ∷ l) (further f)
+  open-later : ltb v 255 ≡ false → (f : Piece) → Open (n + v) l f → Open n (v ∷ l) (oneMore f)
   unfolding cutFrom unfinishedFrom total afterFirst ends
   open-later t f e = record {
     whole = λ (body : Bytes). (ap (λ (b : Bool). onwards b (n + v) l body .whole) t ∙ e .whole body);
@@ -81,7 +81,7 @@ abbrev Ways : ℕ → Bytes → Piece → Type 0
 Ways n l f = (f .ends ≡ true → Ended n l f) × (f .ends ≡ false → Open n l f)
 
 ways-at : (n v : ℕ) (l : Bytes) (b : Bool) → ltb v 255 ≡ b → Ways (n + v) l (firstFrom (n + v) l)
-    → Ways n (v ∷ l) (pick b (record { values = 1; bytes = n + v; ends = true }) (further (firstFrom (n + v) l)))
+    → Ways n (v ∷ l) (pick b (record { values = 1; bytes = n + v; ends = true }) (oneMore (firstFrom (n + v) l)))
 ways-at n v l true t w = (λ e. ends-here n v l t, λ e. absurd (true≢false e))
 ways-at n v l false t w = (λ e. ends-later n v l t (firstFrom (n + v) l) (w .0 e), λ e. open-later n v l t (firstFrom (n + v) l) (w .1 e))
 

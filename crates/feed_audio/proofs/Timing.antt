@@ -14,7 +14,7 @@ use Rattle.granule.specs.declared.Judged.the-variants.{Placed, Refused as Unpla
 use Rattle.granule.specs.Judging.{judge, judgeChecks, placed, toldJudged}
 use Rattle.granule.proofs.Placing.{placed-fits}
 use Rattle.stream.specs.declared.Core.{Core}
-use Rattle.stream.specs.Page.{isLastPage}
+use Rattle.page_flags.specs.Flags.{isLastPage}
 use Rattle.feed_audio.specs.declared.packets.Lengths.the-variants.{All, Refused}
 use Rattle.feed_audio.specs.declared.times.Timed.the-variants.{Packets, Refused as Untimed}
 use Rattle.feed_audio.specs.Code.{Measures, timedBy, Times}

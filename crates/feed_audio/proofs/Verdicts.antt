@@ -20,7 +20,7 @@ use Rattle.granule.specs.declared.Position.{Position}
 use Rattle.granule.specs.declared.Placed.{Placed}
 use Rattle.granule.specs.Judging.{judgeChecks, placed, judge}
 use Rattle.stream.specs.declared.Core.{Core}
-use Rattle.stream.specs.Page.{isLastPage}
+use Rattle.page_flags.specs.Flags.{isLastPage}
 use Rattle.stream.specs.Readings.{Readings, readings}
 use Rattle.stream.specs.Rules.{packetChecks}
 use Rattle.stream.specs.Feed.{isLate}

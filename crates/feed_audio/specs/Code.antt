@@ -9,6 +9,7 @@ use lib.Dec.{ltb, eqb}
 use lib.ListN.{length, take, drop}
 use Rattle.octets.specs.Pick.{pick}
 use Rattle.octets.specs.Octets.{Bytes, total}
+use Rattle.limits.specs.Limits.{packetMax, listMax}
 use Rattle.refusal.specs.Checks.{Check, firstOf}
 use Rattle.refusal.specs.Told.{Told, gives, refuses}
 use Rattle.refusal.specs.Numbers.{numberOf}
@@ -23,29 +24,32 @@ use Rattle.stream.specs.declared.Pending.{Pending}
 use Rattle.stream.specs.declared.Pending.the-variants.{Nothing, Held, Dropped}
 use Rattle.stream.specs.declared.Core.{Core}
 use Rattle.stream.specs.declared.Counts.{Counts}
-use Rattle.stream.specs.Page.{Page, isLastPage, wholeFrom}
+use Rattle.stream.specs.Page.{Page, wholeFrom}
+use Rattle.page_flags.specs.Flags.{isLastPage}
+use Rattle.stream.specs.Lent.{Lent}
 use Rattle.stream.specs.Readings.{Readings}
 use Rattle.stream.specs.State.{State}
 use Rattle.stream.specs.Packets.{Seen, seen, isLong, audioPackets}
 use Rattle.stream.specs.Rules.{packetChecks, timeChecks}
-use Rattle.stream.specs.Feed.{Reader, view, carriedIn, Entry, Lent, listed, Fed, fedBy}
+use Rattle.stream.specs.Feed.{Reader, view, carriedIn, Entry, listed, Fed, fedBy}
 use Rattle.feed_audio.specs.declared.packets.Piece.{Piece}
 use Rattle.feed_audio.specs.declared.packets.Lengths.{Lengths}
 use Rattle.feed_audio.specs.declared.packets.Lengths.the-variants.{All, Refused}
 use Rattle.feed_audio.specs.declared.times.Timed.{Timed}
 use Rattle.feed_audio.specs.declared.times.Timed.the-variants.{Packets, Refused as Untimed}
 use Rattle.feed_lacing.specs.Scan.{tailBy}
+use Rattle.feed_next.specs.Next.{coreAfter}
 
 -- ---- the lacing values
 
--- one value more in front
-abbrev pub further : Piece → Piece
-further p = record { values = p .values + 1; bytes = p .bytes; ends = p .ends }
+-- one value more at its beginning
+abbrev pub oneMore : Piece → Piece
+oneMore p = record { values = p .values + 1; bytes = p .bytes; ends = p .ends }
 
 -- the first piece: how many values, how many bytes, n being known, and whether a packet ends with it
 unfoldable pub firstFrom : ℕ → Bytes → Piece
 firstFrom n [] = record { values = 0; bytes = n; ends = false }
-firstFrom n (v ∷ l) = pick (ltb v 255) (record { values = 1; bytes = n + v; ends = true }) (further (firstFrom (n + v) l))
+firstFrom n (v ∷ l) = pick (ltb v 255) (record { values = 1; bytes = n + v; ends = true }) (oneMore (firstFrom (n + v) l))
 
 -- ---- the packets' lengths
 
@@ -150,14 +154,15 @@ pub record Times (r : Timed) (lens : List ℕ) (k : Core) (h : PageHeader) (t : 
 pub record Room (n from : ℕ) (ls es ss ks : List ℕ) : Type 0 where
   pub lens : n ≤ length ls
   pub ends : n ≤ length es
-  pub sizes : n ≤ length ss
+  pub lengths : n ≤ length ss
   pub kept : n ≤ length ks
   pub fits : from + total (take n ls) < 2 ^ 64
 
 -- the three lists with these entries, and the samples that are then still to skip
-pub record Lists (left : ℕ) (ends sizes kept : List ℕ) (skip : ℕ) (ds : List ℕ) (es : List Entry) (ends₀ sizes₀ kept₀ : List ℕ) : Type 0 where
+pub record Lists (left : ℕ) (ends lengths kept : List ℕ) (skip : ℕ) (ds : List ℕ) (es : List Entry)
+    (ends₀ lengths₀ kept₀ : List ℕ) : Type 0 where
   pub ended : ends ≡ listed (λ (e : Entry). e .end) es ends₀
-  pub sized : sizes ≡ listed (λ (e : Entry). e .size) es sizes₀
+  pub sized : lengths ≡ listed (λ (e : Entry). e .samples) es lengths₀
   pub keeps : kept ≡ listed (λ (e : Entry). e .kept) es kept₀
   pub skips : left ≡ skip - total ds
 
@@ -193,37 +198,29 @@ freshBy (Held n) rest = 0
 freshBy Dropped rest = 0
 
 abbrev pub nextCore : Core → PageHeader → Pending → Position → Core
-nextCore k h pending position = record {
-  phase = pick (isLastPage (h .flags)) Ended Audio;
-  pending = pending;
-  position = position;
-  serial = h .serial;
-  next = (h .sequence + 1) % 2 ^ 32;
-  streams = k .streams;
-  preskip = k .preskip;
-}
+nextCore k h pending position = coreAfter h (pick (isLastPage (h .flags)) Ended Audio) pending position (k .streams) (k .preskip)
 
 -- ---- the ways of a page
 
 -- past 11: 15 to 19 decide
-abbrev pub lateChecks : Readings → State → Page → Seen → List Check
-lateChecks R t p x = packetChecks R (t .streams) (audioPackets t x) ++ timeChecks R t p x
+abbrev pub checksPast11 : Readings → State → Page → Seen → List Check
+checksPast11 R t p x = packetChecks R (t .streams) (audioPackets t x) ++ timeChecks R t p x
 
-abbrev pub lateOn : Readings → Reader → Lent → State → Page → Seen → Fed
-lateOn R r m t p x = fedBy (firstOf (lateChecks R t p x)) R r m t p x
+abbrev pub onPast11 : Readings → Reader → Lent → State → Page → Seen → Fed
+onPast11 R r m t p x = fedBy (firstOf (checksPast11 R t p x)) R r m t p x
 
-unfoldable pub lateFed : Readings → Reader → Lent → Page → Fed
-lateFed R r m p = lateOn R r m (view (r .core) (m .carry)) p (seen (view (r .core) (m .carry)) p)
+unfoldable pub fedPast11 : Readings → Reader → Lent → Page → Fed
+fedPast11 R r m p = onPast11 R r m (view (r .core) (m .carry)) p (seen (view (r .core) (m .carry)) p)
 
 -- an audio page, and the room of 1
 pub record Fitting (k : Core) (l body cs es ss ks : List ℕ) : Type 0 where
   pub audio : k .phase ≡ Audio
   pub few : length l ≤ 255
   pub sums : total l ≡ length body
-  pub carry : 61440 ≤ length cs
-  pub ends : 255 ≤ length es
-  pub sizes : 255 ≤ length ss
-  pub kept : 255 ≤ length ks
+  pub carry : packetMax ≤ length cs
+  pub ends : listMax ≤ length es
+  pub lengths : listMax ≤ length ss
+  pub kept : listMax ≤ length ks
 
 -- it has passed 9; `rest` bytes of its last packet are left
 pub record Scanned (k : Core) (l : Bytes) (carry : List ℕ) (first : Piece) (rest : ℕ) : Type 0 where
@@ -232,8 +229,9 @@ pub record Scanned (k : Core) (l : Bytes) (carry : List ℕ) (first : Piece) (re
   pub tail : rest ≡ tailBy (k .pending) l
 
 -- a packet completes
-pub record Sounding (k : Core) (h : PageHeader) (first : Piece) (rest : ℕ) (l body carry ends sizes kept : List ℕ) : Type 0 where
-  pub fitting : Fitting k l body carry ends sizes kept
+pub record AnyCompletes (k : Core) (h : PageHeader) (first : Piece) (rest : ℕ)
+    (l body carry ends lengths kept : List ℕ) : Type 0 where
+  pub fitting : Fitting k l body carry ends lengths kept
   pub scanned : Scanned k l carry first rest
   pub done : firstFrom 0 l .ends ≡ true
   pub measurable : Measurable (k .pending) (first .values) (first .bytes) l body carry ends
@@ -242,8 +240,8 @@ pub record Sounding (k : Core) (h : PageHeader) (first : Piece) (rest : ℕ) (l 
   pub granule : h .granule < 2 ^ 63
 
 -- none does
-pub record Silent (k : Core) (bytes rest : ℕ) (l body carry ends sizes kept : List ℕ) : Type 0 where
-  pub fitting : Fitting k l body carry ends sizes kept
+pub record NoneCompletes (k : Core) (bytes rest : ℕ) (l body carry ends lengths kept : List ℕ) : Type 0 where
+  pub fitting : Fitting k l body carry ends lengths kept
   pub piece : bytes ≡ firstFrom 0 l .bytes
   pub tail : rest ≡ tailBy (k .pending) l
   pub undone : firstFrom 0 l .ends ≡ false

@@ -5,7 +5,6 @@ ghost use lib.ListN.{length, take};
 ghost use Rattle.stream.specs.declared.Phase.the-variants.{Audio as InAudio};
 ghost use Rattle.stream.specs.Feed.{carriedIn, appended, withRest};
 ghost use Rattle.feed_audio.specs.Code.{restOf, begunBy, stillBy, freshBy, nextCore};
-use super::times;
 use granule::Position;
 use page_layout::PageHeader;
 use stream::Core;
@@ -15,7 +14,8 @@ use stream::Phase;
 // Appends the first piece, of `bytes` bytes, to the held packet that it continues.
 pub(crate) fn append(pending: Pending, bytes: usize, body: &[u8], carry: &mut [u8])
     requires { ⌜ bytes ≤ length (now body) ⌝ }
-    ensures { λ _. ⌜ now (carry .exit) ≡ appended InAudio (carriedIn pending (now (carry .entry))) (take bytes (now (body .entry))) (now (carry .entry)) ⌝ }
+    ensures { λ _. ⌜ now (carry .exit)
+        ≡ appended InAudio (carriedIn pending (now (carry .entry))) (take bytes (now (body .entry))) (now (carry .entry)) ⌝ }
 {
     feed_memory::append(Phase::Audio, pending, &body[..bytes], carry);
 }
@@ -67,19 +67,10 @@ pub(crate) fn fresh(pending: Pending, rest: usize) -> usize
 pub(crate) fn next_core(core: Core, h: PageHeader, pending: Pending, position: Position) -> Core
     ensures { λ r. ⌜ r ≡ nextCore core h pending position ⌝ }
 {
-    let phase = if times::is_last(h.flags) {
+    let phase = if page_flags::is_last_page(h.flags) {
         Phase::Ended
     } else {
         Phase::Audio
     };
-    let next = std::num::wrapping_add_u32(h.sequence, 1);
-    Core {
-        phase,
-        pending,
-        position,
-        serial: h.serial,
-        next,
-        streams: core.streams,
-        preskip: core.preskip,
-    }
+    feed_next::next_core(h, phase, pending, position, core.streams, core.preskip)
 }

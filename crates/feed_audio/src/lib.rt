@@ -8,10 +8,11 @@ ghost use lib.ListN.{length};
 ghost use Rattle.octets.specs.Octets.{Bytes};
 ghost use Rattle.stream.specs.Page.{pageWith};
 ghost use Rattle.stream.specs.Readings.{readings};
-ghost use Rattle.stream.specs.Feed.{readerOf, lentOf, FedIs};
+ghost use Rattle.stream.specs.Feed.{readerOf, FedIs, toldPage};
+ghost use Rattle.stream.specs.Lent.{lentOf, atEntry, atExit};
 ghost use Rattle.stream.specs.State.{isAudio};
-ghost use Rattle.feed_audio.specs.Audio.{feedAudio, audioOn, toldAudio};
-ghost use Rattle.feed_audio.specs.Code.{freshBy, lateFed, Fitting, Sounding, Silent};
+ghost use Rattle.feed_audio.specs.Audio.{audioOn, FeedsAudio};
+ghost use Rattle.feed_audio.specs.Code.{freshBy, fedPast11, Fitting, AnyCompletes, NoneCompletes};
 ghost use Rattle.page_lacing.specs.Lacing.{isBody};
 use feed_lacing::Scan;
 use granule::Position;
@@ -19,7 +20,7 @@ use packets::Piece;
 use page_layout::PageHeader;
 use refusal::Refusal;
 use stream::Core;
-use stream::Counts;
+use stream::PageFed;
 use stream::Phase;
 use stream::Tally;
 use times::Timed;
@@ -28,14 +29,14 @@ mod carried;
 mod packets;
 mod times;
 
-// The state, the samples still to skip and the page's own record; the number of packets listed is in the record.
+// What feeding an audio page answers, or that these arguments are no audio page with room.
 pub enum AudioFed {
-    Accepted(Core, Tally, Counts),
-    Refused(Refusal),
+    Page(PageFed),
+    NotAudio,
 }
 
 // Feeds a page where an audio packet completes.
-fn feed_sound(
+fn feed_completing(
     core: Core,
     tally: Tally,
     h: PageHeader,
@@ -45,11 +46,13 @@ fn feed_sound(
     body: &[u8],
     carry: &mut [u8],
     ends: &mut [u64],
-    sizes: &mut [u64],
+    lengths: &mut [u64],
     kept: &mut [u64],
-) -> AudioFed
-    requires { ⌜ Sounding core h first rest (now lacing) (now body) (now carry) (now ends) (now sizes) (now kept) ⌝ }
-    ensures { λ r. ⌜ ((crc : Bytes → ℕ) → FedIs (lateFed (readings crc) (readerOf core tally) (lentOf (now (carry .entry)) (now (ends .entry)) (now (sizes .entry)) (now (kept .entry))) (pageWith h (now (lacing .entry)) (now (body .entry)))) (toldAudio r) (now (carry .exit)) (now (ends .exit)) (now (sizes .exit)) (now (kept .exit))) ⌝ }
+) -> PageFed
+    requires { ⌜ AnyCompletes core h first rest (now lacing) (now body) (now carry) (now ends) (now lengths) (now kept) ⌝ }
+    ensures { λ r. ⌜ ((crc : Bytes → ℕ) →
+        FedIs (fedPast11 (readings crc) (readerOf core tally) (atEntry carry ends lengths kept)
+        (pageWith h (now (lacing .entry)) (now (body .entry)))) (toldPage r) (atExit carry ends lengths kept)) ⌝ }
 {
     let pending = core.pending;
     let bytes = first.bytes;
@@ -57,9 +60,9 @@ fn feed_sound(
     carried::append(pending, bytes, body, carry);
     let mut lens = [0u32; 255];
     match times::time_page(core, h, first, lacing, body, carry, &mut lens) {
-        Timed::Refused(why) => AudioFed::Refused(why),
+        Timed::Refused(why) => PageFed::Refused(why),
         Timed::Packets(count, d, place) => {
-            let last = times::is_last(h.flags);
+            let last = page_flags::is_last_page(h.flags);
             let left = times::list_packets(
                 &lens,
                 count,
@@ -68,19 +71,19 @@ fn feed_sound(
                 last,
                 h.granule,
                 ends,
-                sizes,
+                lengths,
                 kept,
             );
             carried::keep_rest(rest, body, carry);
             let counts = times::counts_of(count, d, place, skip, last, h.granule);
             let next = carried::next_core(core, h, carried::begun(rest), Position::At(h.granule));
-            AudioFed::Accepted(next, Tally { skip: left }, counts)
+            PageFed::Accepted(next, Tally { skip: left }, counts)
         }
     }
 }
 
 // Feeds a page where no packet completes; its piece has `bytes` bytes.
-fn feed_silent(
+fn feed_piece(
     core: Core,
     tally: Tally,
     h: PageHeader,
@@ -88,27 +91,20 @@ fn feed_silent(
     rest: usize,
     body: &[u8],
     carry: &mut [u8],
-) -> AudioFed
-    requires { ⌜ (bytes ≤ length (now body)) × (freshBy (core .pending) rest ≤ length (now body)) ⌝ }
-    ensures { λ r. ⌜ ((crc : Bytes → ℕ) (l ends sizes kept : List ℕ) → Silent core bytes rest l (now (body .entry)) (now (carry .entry)) ends sizes kept → FedIs (lateFed (readings crc) (readerOf core tally) (lentOf (now (carry .entry)) ends sizes kept) (pageWith h l (now (body .entry)))) (toldAudio r) (now (carry .exit)) ends sizes kept) ⌝ }
+) -> PageFed
+    requires piece { ⌜ bytes ≤ length (now body) ⌝ }
+    requires fresh { ⌜ freshBy (core .pending) rest ≤ length (now body) ⌝ }
+    ensures { λ r. ⌜ ((crc : Bytes → ℕ) (l ends lengths kept : List ℕ) →
+        NoneCompletes core bytes rest l (now (body .entry)) (now (carry .entry)) ends lengths kept →
+        FedIs (fedPast11 (readings crc) (readerOf core tally) (lentOf (now (carry .entry)) ends lengths kept)
+        (pageWith h l (now (body .entry)))) (toldPage r) (lentOf (now (carry .exit)) ends lengths kept)) ⌝ }
 {
     let pending = core.pending;
     let position = core.position;
     carried::append(pending, bytes, body, carry);
     carried::keep_rest(carried::fresh(pending, rest), body, carry);
     let next = carried::next_core(core, h, carried::still_pending(pending, rest), position);
-    AudioFed::Accepted(
-        next,
-        tally,
-        Counts {
-            packets: 0,
-            samples: 0,
-            kept: 0,
-            skipped: 0,
-            trimmed: 0,
-            hole: 0,
-        },
-    )
+    PageFed::Accepted(next, tally, feed_next::no_counts())
 }
 
 // Feeds a page that fits: 9, 11, and what follows.
@@ -120,22 +116,24 @@ fn feed_page(
     body: &[u8],
     carry: &mut [u8],
     ends: &mut [u64],
-    sizes: &mut [u64],
+    lengths: &mut [u64],
     kept: &mut [u64],
-) -> AudioFed
-    requires { ⌜ Fitting core (now lacing) (now body) (now carry) (now ends) (now sizes) (now kept) ⌝ }
-    ensures { λ r. ⌜ ((crc : Bytes → ℕ) → FedIs (audioOn (readings crc) (readerOf core tally) (lentOf (now (carry .entry)) (now (ends .entry)) (now (sizes .entry)) (now (kept .entry))) (pageWith h (now (lacing .entry)) (now (body .entry)))) (toldAudio r) (now (carry .exit)) (now (ends .exit)) (now (sizes .exit)) (now (kept .exit))) ⌝ }
+) -> PageFed
+    requires { ⌜ Fitting core (now lacing) (now body) (now carry) (now ends) (now lengths) (now kept) ⌝ }
+    ensures { λ r. ⌜ ((crc : Bytes → ℕ) →
+        FedIs (audioOn (readings crc) (readerOf core tally) (atEntry carry ends lengths kept)
+        (pageWith h (now (lacing .entry)) (now (body .entry)))) (toldPage r) (atExit carry ends lengths kept)) ⌝ }
 {
     let pending = core.pending;
     let first = packets::first_piece(lacing);
     match feed_lacing::scan_page(pending, lacing) {
-        Scan::TooLong => AudioFed::Refused(Refusal::PacketTooLong),
+        Scan::TooLong => PageFed::Refused(Refusal::PacketTooLong),
         Scan::Rest(rest) => {
-            if granule::wrong_granule(first.ends, h.granule) {
-                return AudioFed::Refused(Refusal::WrongGranule);
+            if granule::wrong_granule(granule::GRANULE_MAX, first.ends, h.granule) {
+                return PageFed::Refused(Refusal::WrongGranule);
             }
             if first.ends {
-                return feed_sound(
+                return feed_completing(
                     core,
                     tally,
                     h,
@@ -145,11 +143,11 @@ fn feed_page(
                     body,
                     carry,
                     ends,
-                    sizes,
+                    lengths,
                     kept,
                 );
             }
-            feed_silent(core, tally, h, first.bytes, rest, body, carry)
+            feed_piece(core, tally, h, first.bytes, rest, body, carry)
         }
     }
 }
@@ -167,7 +165,7 @@ fn is_fed(phase: Phase, short: bool, lacing: &[u8], body: &[u8]) -> bool
 }
 
 // Feeds one audio page, with the fields `h`, to the state that expects it, after refusals 2 to 8. 9: a packet would pass
-// 61,440 bytes. 11: the granule. 15, 16: a packet. 19, 18, 17: the granule and the samples. 1: a lent list is too short, or
+// 61,440 bytes. 11: the granule. 15, 16: a packet. 19, 18, 17: the granule and the samples. Not audio: a lent list is too short,
 // these are no lacing values and body of a page, or the state is not among the audio pages; all stays.
 pub fn feed_audio(
     core: Core,
@@ -177,15 +175,17 @@ pub fn feed_audio(
     body: &[u8],
     carry: &mut [u8],
     ends: &mut [u64],
-    sizes: &mut [u64],
+    lengths: &mut [u64],
     kept: &mut [u64],
 ) -> AudioFed
-    ensures { λ r. ⌜ ((crc : Bytes → ℕ) → FedIs (feedAudio (readings crc) (readerOf core tally) (lentOf (now (carry .entry)) (now (ends .entry)) (now (sizes .entry)) (now (kept .entry))) (pageWith h (now (lacing .entry)) (now (body .entry)))) (toldAudio r) (now (carry .exit)) (now (ends .exit)) (now (sizes .exit)) (now (kept .exit))) ⌝ }
+    ensures { λ r. ⌜ ((crc : Bytes → ℕ) →
+        FeedsAudio (readings crc) (readerOf core tally) (pageWith h (now (lacing .entry)) (now (body .entry)))
+        (atEntry carry ends lengths kept) r (atExit carry ends lengths kept)) ⌝ }
 {
     let phase = core.phase;
-    let short = feed_memory::is_short(carry.len(), ends.len(), sizes.len(), kept.len());
+    let short = feed_memory::is_short(carry.len(), ends.len(), lengths.len(), kept.len());
     if !is_fed(phase, short, lacing, body) {
-        return AudioFed::Refused(Refusal::ShortRoom);
+        return AudioFed::NotAudio;
     }
-    feed_page(core, tally, h, lacing, body, carry, ends, sizes, kept)
+    AudioFed::Page(feed_page(core, tally, h, lacing, body, carry, ends, lengths, kept))
 }

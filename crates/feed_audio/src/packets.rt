@@ -66,7 +66,9 @@ fn measure(
     d: u32,
 ) -> Lengths
     requires { ⌜ Ready from at n d (now lacing) (now body) (now lens) ⌝ }
-    ensures { λ r. ⌜ Measures r (now (lens .exit)) (inFront (take n (now (lens .entry))) (measured streams (wholeFrom 0 (drop from (now (lacing .entry))) (drop at (now (body .entry)))))) ⌝ }
+    ensures { λ r. ⌜
+        Measures r (now (lens .exit)) (inFront (take n (now (lens .entry)))
+        (measured streams (wholeFrom 0 (drop from (now (lacing .entry))) (drop at (now (body .entry)))))) ⌝ }
 {
     let mut count = n;
     let mut sum = d;
@@ -107,7 +109,9 @@ pub(crate) fn measure_page(
     lens: &mut [u32],
 ) -> Lengths
     requires { ⌜ Measurable pending values bytes (now lacing) (now body) (now carry) (now lens) ⌝ }
-    ensures { λ r. ⌜ Measures r (now (lens .exit)) (measured streams (packetsBy pending values bytes (now (lacing .entry)) (now (body .entry)) (now (carry .entry)))) ⌝ }
+    ensures { λ r. ⌜
+        Measures r (now (lens .exit)) (measured streams
+        (packetsBy pending values bytes (now (lacing .entry)) (now (body .entry)) (now (carry .entry)))) ⌝ }
 {
     match pending {
         Pending::Nothing => measure(lacing, body, 0, 0, streams, lens, 0, 0),

@@ -3,7 +3,6 @@ ghost use mathlib.Core.Path.{_≡_};
 ghost use Prim.Native.Nat.{_-_, _<_, _^_};
 ghost use lib.ListN.{take};
 ghost use Rattle.granule.specs.Samples.{trimmedOf};
-ghost use Rattle.stream.specs.Page.{isLastPage};
 ghost use Rattle.stream.specs.Feed.{entries};
 ghost use Rattle.feed_audio.specs.Code.{countOf, measured, packetsBy, Measurable, Times, Room, Lists, countsBy};
 use super::packets;
@@ -15,12 +14,6 @@ use page_layout::PageHeader;
 use refusal::Refusal;
 use stream::Core;
 use stream::Counts;
-
-pub(crate) fn is_last(flags: u8) -> bool
-    ensures { λ r. ⌜ r ≡ isLastPage flags ⌝ }
-{
-    flags / 4 % 2 == 1
-}
 
 // 15 to 19; or how many packets there are, the sum of their lengths, and where they lie.
 pub(crate) enum Timed {
@@ -37,12 +30,17 @@ pub(crate) fn time_page(
     carry: &[u8],
     lens: &mut [u32],
 ) -> Timed
-    requires { ⌜ (Measurable (core .pending) (first .values) (first .bytes) (now lacing) (now body) (now carry) (now lens)) × (h .granule < 2 ^ 63) ⌝ }
-    ensures { λ r. ⌜ Times r (now (lens .exit)) core h (measured (countOf (core .streams)) (packetsBy (core .pending) (first .values) (first .bytes) (now (lacing .entry)) (now (body .entry)) (now (carry .entry)))) ⌝ }
+    requires measurable { ⌜
+        Measurable (core .pending) (first .values) (first .bytes) (now lacing) (now body) (now carry) (now lens) ⌝ }
+    requires small { ⌜ h .granule < 2 ^ 63 ⌝ }
+    ensures { λ r. ⌜
+        Times r (now (lens .exit)) core h (measured (countOf (core .streams))
+        (packetsBy (core .pending) (first .values) (first .bytes)
+        (now (lacing .entry)) (now (body .entry)) (now (carry .entry)))) ⌝ }
 {
     let pending = core.pending;
     let position = core.position;
-    let last = is_last(h.flags);
+    let last = page_flags::is_last_page(h.flags);
     let streams = packets::stream_count(core.streams);
     match packets::measure_page(
         pending,
@@ -85,22 +83,25 @@ pub(crate) fn list_packets(
     last: bool,
     g: u64,
     ends: &mut [u64],
-    sizes: &mut [u64],
+    lengths: &mut [u64],
     kept: &mut [u64],
 ) -> u16
-    requires { ⌜ Room n from (now lens) (now ends) (now sizes) (now kept) ⌝ }
-    ensures { λ r. ⌜ Lists r (now (ends .exit)) (now (sizes .exit)) (now (kept .exit)) skip (take n (now (lens .entry))) (entries skip last g from (take n (now (lens .entry)))) (now (ends .entry)) (now (sizes .entry)) (now (kept .entry)) ⌝ }
+    requires { ⌜ Room n from (now lens) (now ends) (now lengths) (now kept) ⌝ }
+    ensures { λ r. ⌜
+        Lists r (now (ends .exit)) (now (lengths .exit)) (now (kept .exit)) skip (take n (now (lens .entry)))
+        (entries skip last g from (take n (now (lens .entry))))
+        (now (ends .entry)) (now (lengths .entry)) (now (kept .entry)) ⌝ }
 {
     let mut at = from;
     let mut left = skip;
     let mut i: usize = 0;
     while i < n {
         let d = lens[i];
-        let size = wide(d);
+        let samples = wide(d);
         kept[i] = granule::kept(at, d, left, g, last);
-        at += size;
+        at += samples;
         ends[i] = at;
-        sizes[i] = size;
+        lengths[i] = samples;
         left = skip_after(left, d);
         i += 1;
     }

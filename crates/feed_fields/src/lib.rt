@@ -4,7 +4,7 @@ ghost use mathlib.Core.Bool.{not, _&&_, _||_, Bool·beq};
 ghost use mathlib.Core.List.{[], _∷_};
 ghost use Rattle.octets.specs.Octets.{Bytes};
 ghost use Rattle.refusal.specs.Checks.{_when_, firstOf, orElse};
-ghost use Rattle.stream.specs.Page.{isContinued, isFirstPage, isLastPage, pageWith};
+ghost use Rattle.stream.specs.Page.{pageWith};
 ghost use Rattle.stream.specs.State.{inHeaders, expecting};
 ghost use Rattle.stream.specs.Rules.{wrongFlags, fieldChecks};
 ghost use Rattle.stream.specs.Feed.{view};
@@ -21,25 +21,7 @@ pub enum Checked {
     Refused(Refusal),
 }
 
-// ---- marks and phases
-
-fn is_continued(flags: u8) -> bool
-    ensures { λ r. ⌜ r ≡ isContinued flags ⌝ }
-{
-    flags % 2 == 1
-}
-
-fn is_first_page(flags: u8) -> bool
-    ensures { λ r. ⌜ r ≡ isFirstPage flags ⌝ }
-{
-    flags / 2 % 2 == 1
-}
-
-fn is_last_page(flags: u8) -> bool
-    ensures { λ r. ⌜ r ≡ isLastPage flags ⌝ }
-{
-    flags / 4 % 2 == 1
-}
+// ---- phases and what is unfinished
 
 fn in_headers(phase: Phase) -> bool
     ensures { λ r. ⌜ r ≡ inHeaders phase ⌝ }
@@ -101,14 +83,18 @@ fn and_then(c: Checked, why: Refusal, holds: bool) -> Checked
 fn wrong_flags(phase: Phase, flags: u8) -> bool
     ensures { λ r. ⌜ r ≡ wrongFlags phase flags ⌝ }
 {
-    let mark = differ(is_first_page(flags), feed_phase::is_first(phase));
-    let end = both(in_headers(phase), is_last_page(flags));
+    let mark = differ(
+        page_flags::is_first_page(flags),
+        feed_phase::is_first(phase),
+    );
+    let end = both(in_headers(phase), page_flags::is_last_page(flags));
     either(flags > 7, either(mark, end))
 }
 
 // 5 to 8, of the core that expects the page.
 pub fn check_fields(core: Core, h: PageHeader) -> Checked
-    ensures { λ r. ⌜ ((carry lacing body : Bytes) → found r ≡ firstOf (fieldChecks (view core carry) (pageWith h lacing body))) ⌝ }
+    ensures { λ r. ⌜ ((carry lacing body : Bytes) →
+        found r ≡ firstOf (fieldChecks (view core carry) (pageWith h lacing body))) ⌝ }
 {
     let phase = core.phase;
     let pending = core.pending;
@@ -123,7 +109,7 @@ pub fn check_fields(core: Core, h: PageHeader) -> Checked
     and_then(
         c,
         Refusal::WrongContinued,
-        differ(is_continued(flags), is_pending(pending)),
+        differ(page_flags::is_continued(flags), is_pending(pending)),
     )
 }
 
@@ -147,8 +133,8 @@ fn same_pending(p: Pending) -> Pending
     }
 }
 
-// The same core, its enums made anew: so the compiler need not copy, page after page, the unused bytes in them.
-fn anew(core: Core) -> Core
+// The same core, its enums made again: so the compiler need not copy, page after page, the unused bytes in them.
+fn remade(core: Core) -> Core
     ensures { λ r. ⌜ r ≡ core ⌝ }
 {
     let position = core.position;
@@ -183,7 +169,7 @@ pub fn expected(core: Core, h: PageHeader) -> Core
             preskip: core.preskip,
         },
         Phase::Opened => {
-            let pending = if is_continued(h.flags) {
+            let pending = if page_flags::is_continued(h.flags) {
                 Pending::Dropped
             } else {
                 Pending::Nothing
@@ -198,8 +184,8 @@ pub fn expected(core: Core, h: PageHeader) -> Core
                 preskip: core.preskip,
             }
         }
-        Phase::Comment => anew(core),
-        Phase::Audio => anew(core),
-        Phase::Ended => anew(core),
+        Phase::Comment => remade(core),
+        Phase::Audio => remade(core),
+        Phase::Ended => remade(core),
     }
 }

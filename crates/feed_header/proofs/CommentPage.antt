@@ -1,7 +1,7 @@
 -- A page of the comment packet, after 9 to 11: what is in the carry buffer, 14, and the reader that follows. Assumes nothing.
 use Prim.Native.Nat.{ℕ, _+_, _≤_}
 use mathlib.Core.Path.{_≡_, refl, sym, ap, _∙_}
-use mathlib.Core.Bool.{Bool, true, false, not}
+use mathlib.Core.Bool.{Bool, true, false, not, true≢false}
 use mathlib.Core.List.{List, [], _∷_, _++_}
 use mathlib.Core.Option.{Option, none, some}
 use native.Mathlib.Omega.{arith}
@@ -11,7 +11,7 @@ use Rattle.octets.specs.Pick.{pick}
 use Rattle.octets.specs.Octets.{Bytes, total, copied}
 use Rattle.octets.proofs.Copying.{copied-fits, length-copied}
 use Rattle.refusal.specs.declared.Refusal.{Refusal}
-use Rattle.refusal.specs.declared.Refusal.the-variants.{PacketTooLong, BadTags}
+use Rattle.refusal.specs.declared.Refusal.the-variants.{PacketTooLong, HeaderShape, BadTags}
 use Rattle.refusal.specs.Checks.{firstOf}
 use Rattle.refusal.specs.Numbers.{numberOf}
 use Rattle.refusal.specs.Told.{gives, refuses, decided, retold, numberIn}
@@ -28,19 +28,23 @@ use Rattle.stream.specs.declared.Tally.{Tally}
 use Rattle.stream.specs.Page.{Page, whole, rest, pageWith}
 use Rattle.stream.specs.Readings.{Readings, readings}
 use Rattle.stream.specs.State.{State, inHeaders}
-use Rattle.stream.specs.Packets.{join, seen, isLong, packetMax}
+use Rattle.stream.specs.Packets.{join, seen, isLong}
+use Rattle.limits.specs.Limits.{packetMax}
+use Rattle.stream.specs.Lent.{Lent, withCarry}
+use Rattle.stream.specs.Shape.{shapeOf, isOther, wrongShape}
 use Rattle.stream.specs.Rules.{firstPacket, lacingChecks, nextOn}
-use Rattle.stream.specs.Feed.{carriedIn, pendingOf, coreOf, view, Lent, skipOn, firstPiece, appended, newRest, withRest, carryAfter, readerOf, lentOf, FedIs}
+use Rattle.stream.specs.Feed.{carriedIn, pendingOf, coreOf, view, skipOn, firstPiece, appended, newRest, withRest, carryAfter, noCounts, readerOf, FedIs, toldPage}
 use Rattle.stream.specs.Feedings.{heldOf}
 use Rattle.stream.proofs.Pieces.{nonEmpty, Fits, piece-fits}
 use Rattle.stream.proofs.Carry.{fresh, joined-there}
-use Rattle.feed_lacing.specs.declared.Shape.the-variants.{Ends, GoesOn}
-use Rattle.feed_lacing.specs.Shape.{shapeOf}
-use Rattle.feed_header.specs.declared.HeaderFed.the-variants.{Accepted, Refused}
+use Rattle.stream.specs.declared.Shape.{Shape}
+use Rattle.stream.specs.declared.Shape.the-variants.{Ends, GoesOn, Other}
+use Rattle.stream.specs.declared.PageFed.the-variants.{Accepted, Refused}
 use Rattle.feed_header.proofs.HeaderPages.{says-last, says-earlier, done-by-pieces}
-use Rattle.feed_header.proofs.Late.{lateIn, refused-early, refused-late, past-lacing, accepted}
-use Rattle.feed_header.specs.Header.{toldHeader, headerOn, headerFed, pageChecks}
-use Rattle.feed_header.specs.Code.{headerCore, longer, Within}
+use Rattle.feed_header.proofs.Late.{lateIn, refused-below-12, refused-late, past-lacing, accepted}
+use Rattle.feed_header.specs.Header.{headerOn, headerFed, checks9to14}
+use Rattle.feed_header.specs.Code.{longer, Within}
+use Rattle.feed_next.specs.Next.{coreAfter}
 
 -- ---- the carry buffer c, and the piece b
 
@@ -107,15 +111,29 @@ module _ (core : Core) (c : Bytes) (h : PageHeader) (lacing body : Bytes) (sums 
       within (core .pending) c body
       (rw e at (piece-fits (carriedIn (core .pending) c) (pageWith h lacing body) (passed PacketTooLong (isLong (carriedIn (core .pending) c) lacing) _ clear .0)))
 
-  pub last-fits : shapeOf lacing ≡ Ends → Within (core .pending) (length body)
+  last-fits : shapeOf lacing ≡ Ends → Within (core .pending) (length body)
   last-fits e = fits (rw (says-last (pageWith h lacing body) sums e .0))
 
-  pub earlier-fits : shapeOf lacing ≡ GoesOn → Within (core .pending) (length body)
+  earlier-fits : shapeOf lacing ≡ GoesOn → Within (core .pending) (length body)
   earlier-fits e = fits (rw (says-earlier (pageWith h lacing body) sums e .0, says-earlier (pageWith h lacing body) sums e .1))
 
-module _ (crc : Bytes → ℕ) (core : Core) (tally : Tally) (c : Bytes) (ends sizes kept : List ℕ) (h : PageHeader) (lacing body : Bytes) (comment : core .phase ≡ Comment) where
+  -- 10 lets only a piece of the packet pass
+  pub piece-shape : core .phase ≡ Comment → isOther (shapeOf lacing) ≡ false
+  piece-shape comment =
+      let passes = passed PacketTooLong (isLong (carriedIn (core .pending) c) lacing) _ clear .1 in
+      rw comment at (passed HeaderShape (wrongShape (core .phase) (shapeOf lacing)) _ passes .0)
+
+  pub piece-within : core .phase ≡ Comment → Within (core .pending) (length body)
+  piece-within comment = by (shapeOf lacing) refl
+    where
+      by : (s : Shape) → shapeOf lacing ≡ s → Within (core .pending) (length body)
+      by Ends e = last-fits e
+      by GoesOn e = earlier-fits e
+      by Other e = absurd (true≢false (sym (ap isOther e) ∙ piece-shape comment))
+
+module _ (crc : Bytes → ℕ) (core : Core) (tally : Tally) (c : Bytes) (lists : Lent) (h : PageHeader) (lacing body : Bytes) (comment : core .phase ≡ Comment) where
   abbrev m : Lent
-  m = lentOf c ends sizes kept
+  m = withCarry lists c
 
   abbrev t : State
   t = view core c
@@ -129,9 +147,9 @@ module _ (crc : Bytes → ℕ) (core : Core) (tally : Tally) (c : Bytes) (ends s
   inside : inHeaders (core .phase) ≡ true
   inside = rw comment
 
-  pub comment-early : (n : Refusal) → firstOf (lacingChecks t p (seen t p)) ≡ some n → FedIs (headerOn (readings crc) (readerOf core tally) m (pageWith h lacing body)) (toldHeader (Refused n)) c ends sizes kept
+  pub comment-below-12 : (n : Refusal) → firstOf (lacingChecks t p (seen t p)) ≡ some n → FedIs (headerOn (readings crc) (readerOf core tally) m (pageWith h lacing body)) (toldPage (Refused n)) m
   unfolding headerFed
-  comment-early n e = refused-early R t p (seen t p) (record { core = core; tally = tally }) m n e
+  comment-below-12 n e = refused-below-12 R t p (seen t p) (record { core = core; tally = tally }) m n e
 
   skip-stays : tally .skip ≡ skipOn R (tally .skip) t p (seen t p)
   unfolding skipOn
@@ -148,9 +166,9 @@ module _ (crc : Bytes → ℕ) (core : Core) (tally : Tally) (c : Bytes) (ends s
 
       packet-is : packetMax ≤ length c → take (heldOf (longer (core .pending) (length body))) (appended Comment (t .carried) body c) ≡ firstPacket (seen t p .packets)
       unfolding seen
-      packet-is room = rw (one .0, one .1) (packet-there (core .pending) c body room (last-fits core c h lacing body sums clear e))
+      packet-is room = rw (one .0, one .1) (packet-there (core .pending) c body room (piece-within core c h lacing body sums clear comment))
 
-      last-found : firstOf (pageChecks R t p (seen t p)) ≡ firstOf (readChecks (firstPacket (seen t p .packets)))
+      last-found : firstOf (checks9to14 R t p (seen t p)) ≡ firstOf (readChecks (firstPacket (seen t p .packets)))
       unfolding firstOf readings
       last-found = past-lacing R t p (seen t p) clear ∙ rw (last-done, comment)
 
@@ -158,7 +176,7 @@ module _ (crc : Bytes → ℕ) (core : Core) (tally : Tally) (c : Bytes) (ends s
       unfolding seen
       last-left = rw (one .0, one .1) (left-last (core .pending) c body)
 
-      last-next : headerCore core h Audio Nothing (core .streams) (core .preskip) ≡ coreOf (nextOn R t p (seen t p))
+      last-next : coreAfter h Audio Nothing (core .position) (core .streams) (core .preskip) ≡ coreOf (nextOn R t p (seen t p))
       unfolding nextOn
       last-next = rw (last-done, last-left, comment)
 
@@ -171,20 +189,20 @@ module _ (crc : Bytes → ℕ) (core : Core) (tally : Tally) (c : Bytes) (ends s
         is-packet = part ∙ (rw (size, written) (packet-is room))
 
         pub last-accepted : {k : ℕ} → gives k ≡ retold commentCount (readTags b)
-            → FedIs (headerOn (readings crc) (readerOf core tally) m (pageWith h lacing body)) (toldHeader (Accepted (headerCore core h Audio Nothing (core .streams) (core .preskip)) tally)) d ends sizes kept
+            → FedIs (headerOn (readings crc) (readerOf core tally) m (pageWith h lacing body)) (toldPage (Accepted (coreAfter h Audio Nothing (core .position) (core .streams) (core .preskip)) tally noCounts)) (withCarry lists d)
         unfolding headerFed readTags
         last-accepted {k} r =
-            accepted R t p (seen t p) (record { core = core; tally = tally }) m inside (firstOf (pageChecks R t p (seen t p))) _ _ d
+            accepted R t p (seen t p) (record { core = core; tally = tally }) m inside (firstOf (checks9to14 R t p (seen t p))) _ _ d
             (last-found ∙ ap (λ (x : Bytes). firstOf (readChecks x)) (sym is-packet) ∙ no-tags (firstOf (readChecks b)) (tagsOf b) k r)
             last-next skip-stays (written ∙ last-carry)
 
         pub last-refused : (why : Refusal) → refuses (numberOf why) ≡ retold commentCount (readTags b)
-            → FedIs (headerOn (readings crc) (readerOf core tally) m (pageWith h lacing body)) (toldHeader (Refused why)) d ends sizes kept
+            → FedIs (headerOn (readings crc) (readerOf core tally) m (pageWith h lacing body)) (toldPage (Refused why)) (withCarry lists d)
         unfolding headerFed readTags firstOf
         last-refused why r =
             let found = last-found ∙ ap (λ (x : Bytes). firstOf (readChecks x)) (sym is-packet) in
             let wrong = wrong-tags (not (isTags b)) (tagsOf b) why r in
-            refused-late R t p (seen t p) (record { core = core; tally = tally }) m (firstOf (pageChecks R t p (seen t p))) (tagsOf b) why d
+            refused-late R t p (seen t p) (record { core = core; tally = tally }) m (firstOf (checks9to14 R t p (seen t p))) (tagsOf b) why d
             (ap (λ (v : Option Refusal). decided v (tagsOf b)) found ∙ wrong .0) (ap lateIn found ∙ wrong .1) (written ∙ rw (comment, one .0))
 
     -- an earlier piece
@@ -195,7 +213,7 @@ module _ (crc : Bytes → ℕ) (core : Core) (tally : Tally) (c : Bytes) (ends s
       earlier-done : seen t p .completes ≡ false
       earlier-done = done-by-pieces t p ∙ ap nonEmpty (all .0)
 
-      earlier-found : firstOf (pageChecks R t p (seen t p)) ≡ none
+      earlier-found : firstOf (checks9to14 R t p (seen t p)) ≡ none
       unfolding firstOf
       earlier-found = past-lacing R t p (seen t p) clear ∙ rw (earlier-done, comment)
 
@@ -203,13 +221,13 @@ module _ (crc : Bytes → ℕ) (core : Core) (tally : Tally) (c : Bytes) (ends s
       unfolding seen
       earlier-left = rw (all .0, all .1) (left-earlier (core .pending) c body)
 
-      earlier-next : headerCore core h Comment (longer (core .pending) (length body)) (core .streams) (core .preskip) ≡ coreOf (nextOn R t p (seen t p))
+      earlier-next : coreAfter h Comment (longer (core .pending) (length body)) (core .position) (core .streams) (core .preskip) ≡ coreOf (nextOn R t p (seen t p))
       unfolding nextOn
       earlier-next = rw (earlier-done, earlier-left, comment)
 
       pub earlier-accepted : {d : Bytes} → packetMax ≤ length c → d ≡ appended Comment (t .carried) body c
-          → FedIs (headerOn (readings crc) (readerOf core tally) m (pageWith h lacing body)) (toldHeader (Accepted (headerCore core h Comment (longer (core .pending) (length body)) (core .streams) (core .preskip)) tally)) d ends sizes kept
+          → FedIs (headerOn (readings crc) (readerOf core tally) m (pageWith h lacing body)) (toldPage (Accepted (coreAfter h Comment (longer (core .pending) (length body)) (core .position) (core .streams) (core .preskip)) tally noCounts)) (withCarry lists d)
       unfolding headerFed carryAfter
       earlier-accepted {d} room written =
-          accepted R t p (seen t p) (record { core = core; tally = tally }) m inside (firstOf (pageChecks R t p (seen t p))) _ _ d earlier-found earlier-next skip-stays
-          (written ∙ rw (comment, all .0, all .1) (carry-earlier (core .pending) c body room (earlier-fits core c h lacing body sums clear e)))
+          accepted R t p (seen t p) (record { core = core; tally = tally }) m inside (firstOf (checks9to14 R t p (seen t p))) _ _ d earlier-found earlier-next skip-stays
+          (written ∙ rw (comment, all .0, all .1) (carry-earlier (core .pending) c body room (piece-within core c h lacing body sums clear comment)))

@@ -1,15 +1,13 @@
--- The test of the arguments: what fits is fed, and the rest is refused by 1. Assumes nothing.
-use Prim.Native.Nat.{ℕ, _≤_}
-use mathlib.Core.Path.{_≡_, refl}
-use mathlib.Core.Bool.{Bool, true, false, not, _&&_, true≢false, false≢true}
-use mathlib.Core.List.{List}
+-- The test of the arguments: a header page is fed, and of anything else nothing is told. Assumes nothing.
+use mathlib.Core.Path.{_≡_, refl, ap}
+use mathlib.Core.Bool.{Bool, true, false, not, true≢false, false≢true}
+use mathlib.Core.Option.{some}
 use borrow.Author.Tests.{ltb-false, eqb-true, not-true}
-use lib.Dec.{ltb, leb, eqb}
+use lib.Dec.{leb}
 use lib.ListN.{length}
 use Rattle.octets.specs.Octets.{Bytes, total}
 use Rattle.octets.proofs.Tests.{both}
-use Rattle.refusal.specs.declared.Refusal.the-variants.{ShortRoom}
-use Rattle.refusal.specs.Told.{Told}
+use Rattle.limits.specs.Limits.{packetMax}
 use Rattle.page_layout.specs.declared.PageHeader.{PageHeader}
 use Rattle.page_lacing.specs.Lacing.{isBody}
 use Rattle.stream.specs.declared.Phase.{Phase}
@@ -17,14 +15,16 @@ use Rattle.stream.specs.declared.Phase.the-variants.{First, Comment, Audio, Ope
 use Rattle.stream.specs.declared.Pending.{Pending}
 use Rattle.stream.specs.declared.Pending.the-variants.{Nothing, Held, Dropped}
 use Rattle.stream.specs.declared.Core.{Core}
+use Rattle.stream.specs.declared.PageFed.{PageFed}
 use Rattle.stream.specs.declared.Tally.{Tally}
+use Rattle.stream.specs.Lent.{Lent, withCarry, shortCarry}
 use Rattle.stream.specs.Page.{pageWith}
 use Rattle.stream.specs.Readings.{Readings}
 use Rattle.stream.specs.State.{isFirst}
-use Rattle.stream.specs.Packets.{packetMax}
-use Rattle.stream.specs.Feed.{readerOf, lentOf, Taken, FedIs}
-use Rattle.feed_header.specs.declared.HeaderFed.the-variants.{Refused}
-use Rattle.feed_header.specs.Header.{isHeader, fits, headerOn, feedHeader, toldHeader}
+use Rattle.stream.specs.Feed.{readerOf, FedIs, toldPage}
+use Rattle.feed_header.specs.declared.HeaderFed.the-variants.{Page as OfPage, NotHeader}
+use Rattle.feed_header.specs.Header.{isHeader, isHeaderPage, headerOn, FeedsHeader}
+use Rattle.feed_header.specs.Code.{HeadDue, CommentDue}
 
 in-first : (ph : Phase) (k : Pending) → isHeader ph k ≡ true → isFirst ph ≡ true → (ph ≡ First) × (k ≡ Nothing)
 in-first First Nothing e f = (refl, refl)
@@ -43,36 +43,38 @@ in-comment Opened k e f = absurd (false≢true e)
 in-comment Ended k e f = absurd (false≢true e)
 
 module _ (k : Core) (l body carry : Bytes) where
-  -- the test as the code makes it
+  -- the test of the arguments
   abbrev pub tested : Bool
-  tested = isHeader (k .phase) (k .pending) && (not (ltb (length carry) packetMax) && isBody l body)
+  tested = isHeaderPage (k .phase) (k .pending) l body (length carry)
 
   module _ (e : tested ≡ true) where
     header : isHeader (k .phase) (k .pending) ≡ true
+    unfolding isHeaderPage
     header = both (isHeader (k .phase) (k .pending)) _ e .0
 
-    fitting : (not (ltb (length carry) packetMax) ≡ true) × (isBody l body ≡ true)
-    fitting = both _ (isBody l body) (both (isHeader (k .phase) (k .pending)) _ e .1)
+    enough : (not (shortCarry (length carry)) ≡ true) × (isBody l body ≡ true)
+    unfolding isHeaderPage
+    enough = both _ (isBody l body) (both (isHeader (k .phase) (k .pending)) _ e .1)
 
-    pub first-page : isFirst (k .phase) ≡ true → (k .phase ≡ First) × (k .pending ≡ Nothing)
-    first-page f = in-first (k .phase) (k .pending) header f
-
-    pub comment-page : isFirst (k .phase) ≡ false → k .phase ≡ Comment
-    comment-page f = in-comment (k .phase) (k .pending) header f
-
-    pub room : packetMax ≤ length carry
-    room = ltb-false (length carry) packetMax (not-true _ (fitting .0))
-
-    pub sums : total l ≡ length body
+    sums : total l ≡ length body
     unfolding isBody
-    sums = eqb-true (total l) (length body) (both (leb (length l) 255) _ (fitting .1) .1)
+    sums = eqb-true (total l) (length body) (both (leb (length l) 255) _ (enough .1) .1)
 
-  module _ (R : Readings) (t : Tally) (h : PageHeader) (ends sizes kept : List ℕ) where
-    pub unfit : tested ≡ false → FedIs (feedHeader R (readerOf k t) (lentOf carry ends sizes kept) (pageWith h l body)) (toldHeader (Refused ShortRoom)) carry ends sizes kept
-    unfolding feedHeader fits
-    unfit e = rw e (record { told = refl; held = refl; ended = refl; sized = refl; keeps = refl })
+    pub head-due : isFirst (k .phase) ≡ true → HeadDue k l body
+    head-due f = record { first = in-first (k .phase) (k .pending) header f .0; none-left = in-first (k .phase) (k .pending) header f .1; sums = sums }
 
-    pub fit : tested ≡ true → {r : Told Taken} {c : Bytes} → FedIs (headerOn R (readerOf k t) (lentOf carry ends sizes kept) (pageWith h l body)) r c ends sizes kept
-        → FedIs (feedHeader R (readerOf k t) (lentOf carry ends sizes kept) (pageWith h l body)) r c ends sizes kept
-    unfolding feedHeader fits
-    fit e {r} {c} o = rw e o
+    pub comment-due : isFirst (k .phase) ≡ false → CommentDue k l body carry
+    comment-due f = record {
+      comment = in-comment (k .phase) (k .pending) header f;
+      sums = sums;
+      room = ltb-false (length carry) packetMax (not-true _ (enough .0));
+    }
+
+  module _ (R : Readings) (t : Tally) (h : PageHeader) (m : Lent) where
+    pub not-due : tested ≡ false → FeedsHeader R (readerOf k t) (pageWith h l body) (withCarry m carry) NotHeader (withCarry m carry)
+    not-due e = record { told = rw e; lent = rw e }
+
+    pub due : tested ≡ true → (f : PageFed) {c : Bytes}
+        → FedIs (headerOn R (readerOf k t) (withCarry m carry) (pageWith h l body)) (toldPage f) (withCarry m c)
+        → FeedsHeader R (readerOf k t) (pageWith h l body) (withCarry m carry) (OfPage f) (withCarry m c)
+    due e f {c} o = record { told = rw e (ap some (o .told)); lent = rw e (o .lent) }

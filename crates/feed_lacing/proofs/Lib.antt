@@ -1,4 +1,3 @@
 pub mod Scanning
 pub mod OnePiece
-pub mod Pieces
 pub mod Values

@@ -1,4 +1,4 @@
--- The shape of a page on the lacing values, one by one, and what it says of the page's pieces. Assumes nothing.
+-- The shape of a page on the lacing values, one by one. Assumes nothing.
 use mathlib.Core.Path.{_≡_, refl}
 use mathlib.Core.List.{[], _∷_}
 use mathlib.Core.Option.{none}
@@ -8,9 +8,9 @@ use native.Mathlib.Omega.{arith}
 use borrow.Author.Tests.{lt-ltb, le-ltb}
 use lib.ListN.{length}
 use Rattle.octets.specs.Octets.{Bytes}
-use Rattle.feed_lacing.specs.declared.Shape.{Shape}
-use Rattle.feed_lacing.specs.declared.Shape.the-variants.{Ends, GoesOn, Other}
-use Rattle.feed_lacing.specs.Shape.{shapeBehind, shapeFrom}
+use Rattle.stream.specs.declared.Shape.{Shape}
+use Rattle.stream.specs.declared.Shape.the-variants.{Ends, GoesOn, Other}
+use Rattle.stream.specs.Shape.{shapeAfter, shapeFrom}
 
 -- what there is where i values, none of which ends a packet, are all
 abbrev pub shapeAt : ℕ → Shape
@@ -21,7 +21,7 @@ pub goes-on : (s : Shape) (l : Bytes) (v : ℕ) → 255 ≤ v → shapeFrom s (v
 unfolding shapeFrom
 goes-on s l v h = rw (le-ltb v 255 h)
 
-pub ends : (s : Shape) (l : Bytes) (v : ℕ) → v < 255 → shapeFrom s (v ∷ l) ≡ shapeBehind l
+pub ends : (s : Shape) (l : Bytes) (v : ℕ) → v < 255 → shapeFrom s (v ∷ l) ≡ shapeAfter l
 unfolding shapeFrom
 ends s l v h = rw (lt-ltb v 255 h)
 
@@ -29,12 +29,12 @@ pub at-end : (s : Shape) → shapeFrom s [] ≡ s
 unfolding shapeFrom
 at-end s = refl
 
--- behind the end of a packet
-pub no-more : (l : Bytes) → length l ≡ 0 → shapeBehind l ≡ Ends
+-- after the end of a packet
+pub no-more : (l : Bytes) → length l ≡ 0 → shapeAfter l ≡ Ends
 no-more [] e = refl
 no-more (v ∷ l) e = absurd (omega arith)
 
-pub some-more : (l : Bytes) → 0 < length l → shapeBehind l ≡ Other
+pub some-more : (l : Bytes) → 0 < length l → shapeAfter l ≡ Other
 some-more [] h = absurd (omega arith)
 some-more (v ∷ l) h = refl
 

@@ -10,7 +10,8 @@ use lib.ListN.{length, getD}
 use Rattle.octets.specs.Pick.{pick}
 use Rattle.octets.specs.Octets.{Bytes, total}
 use Rattle.page_lacing.specs.Lacing.{endedFrom, unfinishedFrom}
-use Rattle.stream.specs.Packets.{packetMax, tooLong, anyLong, longFrom, afterFirst, isLong}
+use Rattle.stream.specs.Packets.{tooLong, anyLong, longFrom, afterFirst, isLong}
+use Rattle.limits.specs.Limits.{packetMax}
 use Rattle.stream.specs.declared.Pending.{Pending}
 use Rattle.stream.specs.declared.Pending.the-variants.{Nothing, Held, Dropped}
 use Rattle.stream.specs.Feed.{carriedIn}

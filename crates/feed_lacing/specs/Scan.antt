@@ -1,5 +1,7 @@
 -- The packets of a page against the bound of 9, by the lacing values (document 01, refusal 9). Assumes nothing.
-use Prim.Native.Nat.{ℕ}
+use Prim.Native.Nat.{ℕ, _≤_}
+use mathlib.Core.Path.{_≡_}
+use lib.ListN.{length, drop}
 use Rattle.octets.specs.Pick.{pick}
 use Rattle.octets.specs.Octets.{Bytes}
 use Rattle.page_lacing.specs.Lacing.{unfinishedFrom}
@@ -24,3 +26,8 @@ abbrev pub scanBy : Pending → Bytes → Scan
 scanBy Nothing l = scanOf 0 l
 scanBy (Held n) l = scanOf n l
 scanBy Dropped l = scanOf 0 (afterFirst l)
+
+-- r is the place after the first value that ends a packet
+pub record IsAfterFirst (l : Bytes) (r : ℕ) : Type 0 where
+  pub values : drop r l ≡ afterFirst l
+  pub inside : r ≤ length l

@@ -4,27 +4,21 @@ ghost use mathlib.Core.Bool.{true};
 ghost use Prim.Native.Nat.{_≤_};
 ghost use lib.ListN.{length, drop};
 ghost use Rattle.octets.specs.Octets.{Bytes};
-ghost use Rattle.stream.specs.Packets.{afterFirst, isLong};
+ghost use Rattle.stream.specs.Packets.{isLong};
 ghost use Rattle.stream.specs.Feed.{carriedIn};
 ghost use Rattle.feed_lacing.specs.declared.Scan.the-variants.{Rest};
-ghost use Rattle.feed_lacing.specs.Scan.{scanOf, scanBy};
-ghost use Rattle.feed_lacing.specs.Shape.{shapeOf};
+ghost use Rattle.feed_lacing.specs.Scan.{scanOf, scanBy, IsAfterFirst};
+ghost use Rattle.stream.specs.Shape.{shapeOf, isEnds, isOther, wrongShape};
+use limits::PACKET_MAX;
 use stream::Pending;
+use stream::Phase;
+use stream::Shape;
 
 // 9, or how many bytes the page's last, unfinished packet has, the held ones included.
 pub enum Scan {
     TooLong,
     Rest(usize),
 }
-
-// What a page is of one packet: its last piece and nothing else, a piece that goes on and nothing else, or something else.
-pub enum Shape {
-    Ends,
-    GoesOn,
-    Other,
-}
-
-const PACKET_MAX: usize = 61440;
 
 // The values from `from` on, `held` bytes of the first packet being held already.
 fn scan_from(lacing: &[u8], from: usize, held: usize) -> Scan
@@ -56,7 +50,7 @@ fn scan_from(lacing: &[u8], from: usize, held: usize) -> Scan
 
 // The place after the first value that ends a packet.
 fn after_first(lacing: &[u8]) -> usize
-    ensures { λ r. ⌜ (drop r (now (lacing .entry)) ≡ afterFirst (now (lacing .entry))) × (r ≤ length (now (lacing .entry))) ⌝ }
+    ensures { λ r. ⌜ IsAfterFirst (now (lacing .entry)) r ⌝ }
 {
     let mut i = 0;
     while i < lacing.len() {
@@ -137,4 +131,42 @@ pub fn shape_of(lacing: &[u8]) -> Shape
         return Shape::Other;
     }
     Shape::GoesOn
+}
+
+// Whether the page is the last piece of a packet and nothing else.
+pub fn is_ends(shape: Shape) -> bool
+    ensures { λ r. ⌜ r ≡ isEnds shape ⌝ }
+{
+    match shape {
+        Shape::Ends => true,
+        Shape::GoesOn => false,
+        Shape::Other => false,
+    }
+}
+
+fn is_other(shape: Shape) -> bool
+    ensures { λ r. ⌜ r ≡ isOther shape ⌝ }
+{
+    match shape {
+        Shape::Ends => false,
+        Shape::GoesOn => false,
+        Shape::Other => true,
+    }
+}
+
+// 10: the first page has to be one whole packet, and a page of the comment packet one piece of it.
+pub fn wrong_shape(phase: Phase, shape: Shape) -> bool
+    ensures { λ r. ⌜ r ≡ wrongShape phase shape ⌝ }
+{
+    match phase {
+        Phase::First => match shape {
+            Shape::Ends => false,
+            Shape::GoesOn => true,
+            Shape::Other => true,
+        },
+        Phase::Comment => is_other(shape),
+        Phase::Audio => false,
+        Phase::Opened => false,
+        Phase::Ended => false,
+    }
 }

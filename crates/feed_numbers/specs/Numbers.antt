@@ -42,8 +42,9 @@ granuleIn (At g) = g
 -- still to skip, and six zeros
 unfoldable pub numbersOf : Reader → List ℕ
 numbersOf r =
-    phaseNumber (r .core .phase) ∷ pendingNumber (r .core .pending) ∷ heldOf (r .core .pending) ∷ positionNumber (r .core .position)
-    ∷ granuleIn (r .core .position) ∷ r .core .serial ∷ r .core .next ∷ r .core .streams ∷ r .core .preskip ∷ r .tally .skip
+    phaseNumber (r .core .phase) ∷ pendingNumber (r .core .pending) ∷ heldOf (r .core .pending)
+    ∷ positionNumber (r .core .position) ∷ granuleIn (r .core .position) ∷ r .core .serial ∷ r .core .next
+    ∷ r .core .streams ∷ r .core .preskip ∷ r .tally .skip
     ∷ 0 ∷ 0 ∷ 0 ∷ 0 ∷ 0 ∷ 0 ∷ []
 
 -- ---- and back

@@ -2,7 +2,8 @@
 ghost use mathlib.Core.Path.{_≡_};
 ghost use Prim.Native.Nat.{_%_};
 ghost use Rattle.stream.specs.Feed.{readerOf};
-ghost use Rattle.feed_numbers.specs.Numbers.{phaseNumber, pendingNumber, positionNumber, granuleIn, StandFor, phaseFrom, pendingFrom, positionFrom, readerFrom};
+ghost use Rattle.feed_numbers.specs.Numbers.{phaseNumber, pendingNumber, positionNumber, granuleIn, StandFor};
+ghost use Rattle.feed_numbers.specs.Numbers.{phaseFrom, pendingFrom, positionFrom, readerFrom};
 use granule::Position;
 use stream::Core;
 use stream::Pending;

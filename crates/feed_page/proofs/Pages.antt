@@ -31,9 +31,10 @@ use Rattle.stream.specs.Readings.{Readings, readings}
 use Rattle.stream.specs.State.{nothing, State, isEnded, unfinished, expectingIn, expecting, isAudio}
 use Rattle.stream.specs.Packets.{seen}
 use Rattle.stream.specs.Rules.{wrongFlags, fieldChecks, checksOn, verdict}
-use Rattle.stream.specs.Feed.{carriedIn, view, Lent, isShort, carryAfter, fedBy, feed, Reader, readerOf, FedIs, shortBy, Fed}
+use Rattle.stream.specs.Feed.{carriedIn, view, carryAfter, fedBy, feed, Reader, readerOf, FedIs, Fed}
+use Rattle.stream.specs.Lent.{Lent, isShort, shortBy}
 use Rattle.stream.proofs.Step.{still-ended, feeds, feeds-short}
-use Rattle.feed_page.specs.Stages.{lateChecks, fedFrom, fedLate, earlyChecks, Awaits}
+use Rattle.feed_page.specs.Stages.{checks9to19, fedFrom, fedFrom9, unreadChecks, Awaits}
 use Rattle.feed_header.specs.Header.{isHeader}
 use Rattle.feed_header.proofs.Late.{lateIn}
 
@@ -64,24 +65,24 @@ ready core due c p going e late = by (core .phase) refl
 module _ (R : Readings) (core due : Core) (tally : Tally) (m : Lent) (t : State) (p : Page) where
   -- 5 to 19
   abbrev fieldsOn : Fed
-  fieldsOn = fedBy (firstOf (fieldChecks t p ++ lateChecks R t p (seen t p))) R (readerOf core tally) m t p (seen t p)
+  fieldsOn = fedBy (firstOf (fieldChecks t p ++ checks9to19 R t p (seen t p))) R (readerOf core tally) m t p (seen t p)
 
   -- the reader itself is not looked at
   same-core : (v : Option Refusal) → fedBy v R (readerOf core tally) m t p (seen t p) ≡ fedBy v R (readerOf due tally) m t p (seen t p)
   same-core none = refl
   same-core (some n) = refl
 
-  past-fields : firstOf (fieldChecks t p) ≡ none → firstOf (fieldChecks t p ++ lateChecks R t p (seen t p)) ≡ firstOf (lateChecks R t p (seen t p))
-  past-fields e = first-of-append (fieldChecks t p) (lateChecks R t p (seen t p)) ∙ rw e
+  past-fields : firstOf (fieldChecks t p) ≡ none → firstOf (fieldChecks t p ++ checks9to19 R t p (seen t p)) ≡ firstOf (checks9to19 R t p (seen t p))
+  past-fields e = first-of-append (fieldChecks t p) (checks9to19 R t p (seen t p)) ∙ rw e
 
   fields-passed : firstOf (fieldChecks t p) ≡ none → fieldsOn ≡ fedFrom R (readerOf due tally) m t p
   fields-passed e =
       ap (λ (v : Option Refusal). fedBy v R (readerOf core tally) m t p (seen t p)) (past-fields e)
-      ∙ same-core (firstOf (lateChecks R t p (seen t p)))
+      ∙ same-core (firstOf (checks9to19 R t p (seen t p)))
 
-  fields-early : lateIn (firstOf (fieldChecks t p)) ≡ false
+  fields-below-12 : lateIn (firstOf (fieldChecks t p)) ≡ false
   unfolding firstOf
-  fields-early = by (not (eqb (p .header .serial) (t .serial))) (not (eqb (p .header .sequence) (t .next))) (wrongFlags (t .phase) (p .header .flags)) (not (Bool·beq (continued p) (unfinished (t .carried))))
+  fields-below-12 = by (not (eqb (p .header .serial) (t .serial))) (not (eqb (p .header .sequence) (t .next))) (wrongFlags (t .phase) (p .header .flags)) (not (Bool·beq (continued p) (unfinished (t .carried))))
     where
       by : (a b c d : Bool) → lateIn (pick a (some OtherSerial) (pick b (some OutOfSequence) (pick c (some WrongFlags) (pick d (some WrongContinued) none)))) ≡ false
       by true b c d = refl
@@ -90,11 +91,11 @@ module _ (R : Readings) (core due : Core) (tally : Tally) (m : Lent) (t : State)
       by false false false true = refl
       by false false false false = refl
 
-  fields-refused : (n : Refusal) → firstOf (fieldChecks t p) ≡ some n → FedIs fieldsOn (refuses (numberOf n)) (m .carry) (m .ends) (m .sizes) (m .kept)
+  fields-refused : (n : Refusal) → firstOf (fieldChecks t p) ≡ some n → FedIs fieldsOn (refuses (numberOf n)) m
   unfolding carryAfter
   fields-refused n e =
-      rw (first-of-append (fieldChecks t p) (lateChecks R t p (seen t p)), e)
-      (record { told = refl; held = rw (sym (ap lateIn e) ∙ fields-early); ended = refl; sized = refl; keeps = refl })
+      rw (first-of-append (fieldChecks t p) (checks9to19 R t p (seen t p)), e)
+      (record { told = refl; lent = rw (sym (ap lateIn e) ∙ fields-below-12) })
 
 -- ---- 1 to 4
 
@@ -106,7 +107,7 @@ module _ (crc : Bytes → ℕ) (b : Bytes) (h : PageHeader) (e : readPage crc b 
   clear : (not (isOnePage b) ≡ false) × (firstOf (WrongChecksum when not (eqb (crc b) (checksumOf b)) ∷ []) ≡ none)
   clear = passed NotOnePage (not (isOnePage b)) _ (none-found .0)
 
-short-by : (m : Lent) → isShort m ≡ shortBy (length (m .carry)) (length (m .ends)) (length (m .sizes)) (length (m .kept))
+short-by : (m : Lent) → isShort m ≡ shortBy (length (m .carry)) (length (m .ends)) (length (m .lengths)) (length (m .kept))
 unfolding isShort
 short-by m = refl
 
@@ -120,8 +121,8 @@ module _ (crc : Bytes → ℕ) (core : Core) (tally : Tally) (m : Lent) (b : Byt
   abbrev F : Fed
   F = feed R r m b
 
-  no-room : isShort m ≡ true → FedIs F (refuses (numberOf ShortRoom)) (m .carry) (m .ends) (m .sizes) (m .kept)
-  no-room e = rw (feeds-short R r m b e) (record { told = refl; held = refl; ended = refl; sized = refl; keeps = refl })
+  no-room : isShort m ≡ true → FedIs F (refuses (numberOf ShortRoom)) m
+  no-room e = rw (feeds-short R r m b e) (record { told = refl; lent = refl })
 
   module _ (room : isShort m ≡ false) where
     abbrev s : State
@@ -130,29 +131,29 @@ module _ (crc : Bytes → ℕ) (core : Core) (tally : Tally) (m : Lent) (b : Byt
     abbrev t : State
     t = expecting s (pageOf b)
 
-    after-end : isEnded (core .phase) ≡ true → FedIs F (refuses (numberOf AfterEnd)) (m .carry) (m .ends) (m .sizes) (m .kept)
+    after-end : isEnded (core .phase) ≡ true → FedIs F (refuses (numberOf AfterEnd)) m
     unfolding verdict checksOn firstOf carryAfter
-    after-end e = rw (feeds R r m b room, still-ended s (pageOf b) ∙ e) (record { told = refl; held = refl; ended = refl; sized = refl; keeps = refl })
+    after-end e = rw (feeds R r m b room, still-ended s (pageOf b) ∙ e) (record { told = refl; lent = refl })
 
     module _ (going : isEnded (core .phase) ≡ false) where
-      pub not-a-page : (why : Refusal) → refuses (numberOf why) ≡ readPage crc b → FedIs F (refuses (numberOf why)) (m .carry) (m .ends) (m .sizes) (m .kept)
+      pub not-a-page : (why : Refusal) → refuses (numberOf why) ≡ readPage crc b → FedIs F (refuses (numberOf why)) m
       unfolding verdict checksOn firstOf carryAfter readPage readings
       not-a-page why e =
           rw (feeds R r m b room, still-ended s (pageOf b) ∙ going)
           (by (not (isOnePage b)) (not (eqb (crc b) (checksumOf b))) _ e)
         where
           by : (x y : Bool) (v : Option Refusal) → refuses (numberOf why) ≡ decided (pick x (some NotOnePage) (pick y (some WrongChecksum) none)) (headerOf b)
-              → FedIs (fedBy (pick x (some NotOnePage) (pick y (some WrongChecksum) v)) R r m t (pageOf b) (seen t (pageOf b))) (refuses (numberOf why)) (m .carry) (m .ends) (m .sizes) (m .kept)
-          by true y v k = record { told = ap refuses (ap numberIn k); held = refl; ended = refl; sized = refl; keeps = refl }
-          by false true v k = record { told = ap refuses (ap numberIn k); held = refl; ended = refl; sized = refl; keeps = refl }
+              → FedIs (fedBy (pick x (some NotOnePage) (pick y (some WrongChecksum) v)) R r m t (pageOf b) (seen t (pageOf b))) (refuses (numberOf why)) m
+          by true y v k = record { told = ap refuses (ap numberIn k); lent = refl }
+          by false true v k = record { told = ap refuses (ap numberIn k); lent = refl }
           by false false v k = let z : _≡_ {A = ℕ} 0 1 = cc in absurd (omega arith)
 
       -- a page: what is left is 5 to 19
       passes-on : (h : PageHeader) → readPage crc b ≡ gives h → F ≡ fieldsOn R core core tally m t (pageOf b)
       unfolding verdict checksOn firstOf readings
       passes-on h e =
-          let sealed = passed WrongChecksum (not (eqb (crc b) (checksumOf b))) [] (clear crc b h e .1) in
-          rw (feeds R r m b room, still-ended s (pageOf b) ∙ going, clear crc b h e .0, sealed .0)
+          let right = passed WrongChecksum (not (eqb (crc b) (checksumOf b))) [] (clear crc b h e .1) in
+          rw (feeds R r m b room, still-ended s (pageOf b) ∙ going, clear crc b h e .0, right .0)
 
       -- the core that expects it
       module _ (h : PageHeader) (e : readPage crc b ≡ gives h) (due : Core) (expects : view due (m .carry) ≡ expecting s (pageWith h (lacingOf b) (bodyOf b))) where
@@ -166,13 +167,13 @@ module _ (crc : Bytes → ℕ) (core : Core) (tally : Tally) (m : Lent) (b : Byt
         same-fields : firstOf (fieldChecks t (pageOf b)) ≡ firstOf (fieldChecks (view due (m .carry)) (pageWith h (lacingOf b) (bodyOf b)))
         same-fields = ap₂ (λ (i : State) (q : Page). firstOf (fieldChecks i q)) (sym due-is) (sym page-is)
 
-        same-late : fedFrom R (readerOf due tally) m t (pageOf b) ≡ fedLate R (readerOf due tally) m (pageWith h (lacingOf b) (bodyOf b))
-        unfolding fedLate
+        same-late : fedFrom R (readerOf due tally) m t (pageOf b) ≡ fedFrom9 R (readerOf due tally) m (pageWith h (lacingOf b) (bodyOf b))
+        unfolding fedFrom9
         same-late = ap₂ (λ (i : State) (q : Page). fedFrom R (readerOf due tally) m i q) (sym due-is) (sym page-is)
 
-        pub page-early : (n : Refusal) → firstOf (fieldChecks (view due (m .carry)) (pageWith h (lacingOf b) (bodyOf b))) ≡ some n
-            → FedIs F (refuses (numberOf n)) (m .carry) (m .ends) (m .sizes) (m .kept)
-        page-early n k = rw (passes-on h e) (fields-refused R core due tally m t (pageOf b) n (same-fields ∙ k))
+        pub page-refused : (n : Refusal) → firstOf (fieldChecks (view due (m .carry)) (pageWith h (lacingOf b) (bodyOf b))) ≡ some n
+            → FedIs F (refuses (numberOf n)) m
+        page-refused n k = rw (passes-on h e) (fields-refused R core due tally m t (pageOf b) n (same-fields ∙ k))
 
         pub page-awaited : firstOf (fieldChecks (view due (m .carry)) (pageWith h (lacingOf b) (bodyOf b))) ≡ none → Awaits R core due h tally m b
         page-awaited k = record {
@@ -183,21 +184,21 @@ module _ (crc : Bytes → ℕ) (core : Core) (tally : Tally) (m : Lent) (b : Byt
 
 -- 1 and 2
 module _ (ph : Phase) (m : Lent) where
-  abbrev found-early : Option Refusal
-  found-early = firstOf (earlyChecks ph (length (m .carry)) (length (m .ends)) (length (m .sizes)) (length (m .kept)))
+  abbrev found-unread : Option Refusal
+  found-unread = firstOf (unreadChecks ph (length (m .carry)) (length (m .ends)) (length (m .lengths)) (length (m .kept)))
 
-  pub none-early : found-early ≡ none → (isEnded ph ≡ false) × (isShort m ≡ false)
-  none-early e =
-      let first = passed ShortRoom (shortBy (length (m .carry)) (length (m .ends)) (length (m .sizes)) (length (m .kept))) _ e in
+  pub none-unread : found-unread ≡ none → (isEnded ph ≡ false) × (isShort m ≡ false)
+  none-unread e =
+      let first = passed ShortRoom (shortBy (length (m .carry)) (length (m .ends)) (length (m .lengths)) (length (m .kept))) _ e in
       (passed AfterEnd (isEnded ph) [] (first .1) .0, short-by m ∙ first .0)
 
-pub some-early : (crc : Bytes → ℕ) (core : Core) (tally : Tally) (m : Lent) (b : Bytes) (n : Refusal) → found-early (core .phase) m ≡ some n
-    → FedIs (feed (readings crc) (readerOf core tally) m b) (refuses (numberOf n)) (m .carry) (m .ends) (m .sizes) (m .kept)
+pub some-unread : (crc : Bytes → ℕ) (core : Core) (tally : Tally) (m : Lent) (b : Bytes) (n : Refusal) → found-unread (core .phase) m ≡ some n
+    → FedIs (feed (readings crc) (readerOf core tally) m b) (refuses (numberOf n)) m
 unfolding firstOf
-some-early crc core tally m b n found = by (isShort m) (isEnded (core .phase)) refl refl (rw (short-by m) found)
+some-unread crc core tally m b n found = by (isShort m) (isEnded (core .phase)) refl refl (rw (short-by m) found)
   where
     by : (x y : Bool) → isShort m ≡ x → isEnded (core .phase) ≡ y → pick x (some ShortRoom) (pick y (some AfterEnd) none) ≡ some n
-        → FedIs (feed (readings crc) (readerOf core tally) m b) (refuses (numberOf n)) (m .carry) (m .ends) (m .sizes) (m .kept)
+        → FedIs (feed (readings crc) (readerOf core tally) m b) (refuses (numberOf n)) m
     by true y p q e = let k : ShortRoom ≡ n = cc in rw (← k) (no-room crc core tally m b p)
     by false true p q e = let k : AfterEnd ≡ n = cc in rw (← k) (after-end crc core tally m b p q)
     by false false p q e = let z : _≡_ {A = ℕ} 0 1 = cc in absurd (omega arith)

@@ -1,17 +1,16 @@
 // Feeding one page to the core of a reader, in stages: 1 and 2, 3 to 8, and what header pages and audio pages have of their own.
 ghost use mathlib.Core.Path.{_≡_};
-ghost use mathlib.Core.Bool.{false};
+ghost use mathlib.Core.Option.{some};
 ghost use Prim.Native.Nat.{ℕ};
 ghost use Rattle.octets.specs.Octets.{Bytes};
 ghost use Rattle.stream.specs.declared.Tally.{Tally as Counting};
-ghost use Rattle.stream.specs.State.{isEnded};
 ghost use Rattle.refusal.specs.Checks.{firstOf};
-ghost use Rattle.page_reader.specs.Reading.{readPage, toldRead};
+ghost use Rattle.refusal.specs.Told.{Told};
 ghost use Rattle.stream.specs.Readings.{readings};
-ghost use Rattle.stream.specs.Feed.{readerOf, Lent, lentOf, isShort, FedIs, feed as feedBy};
+ghost use Rattle.stream.specs.Feed.{readerOf, Taken, Feeds, toldPage};
+ghost use Rattle.stream.specs.Lent.{Lent, atEntry, atExit};
 ghost use Rattle.feed_fields.specs.Checked.{found};
-ghost use Rattle.feed_page.specs.Answers.{toldCore};
-ghost use Rattle.feed_page.specs.Stages.{earlyChecks, DueIs};
+ghost use Rattle.feed_page.specs.Stages.{unreadChecks, Unrefused, DueIs};
 ghost use Rattle.page_crc.specs.Crc.{pageCrc};
 ghost use Rattle.page_crc_tables.specs.Table.{entryIn};
 ghost use Rattle.page_crc.specs.Sliced.{pageSliced};
@@ -24,21 +23,15 @@ use page_layout::PageHeader;
 use page_reader::PageRead;
 use refusal::Refusal;
 use stream::Core;
-use stream::Counts;
+use stream::PageFed;
 use stream::Phase;
 use stream::Tally;
 
-// The state, the samples still to skip and the page's own record.
-pub enum CoreFed {
-    Accepted(Core, Tally, Counts),
-    Refused(Refusal),
-}
-
 // 1 and 2, by the lengths of what is lent: no page is read under these.
-fn early(phase: Phase, carry: usize, ends: usize, sizes: usize, kept: usize) -> Checked
-    ensures { λ r. ⌜ found r ≡ firstOf (earlyChecks phase carry ends sizes kept) ⌝ }
+fn check_unread(phase: Phase, carry: usize, ends: usize, lengths: usize, kept: usize) -> Checked
+    ensures { λ r. ⌜ found r ≡ firstOf (unreadChecks phase carry ends lengths kept) ⌝ }
 {
-    if feed_memory::is_short(carry, ends, sizes, kept) {
+    if feed_memory::is_short(carry, ends, lengths, kept) {
         return Checked::Refused(Refusal::ShortRoom);
     }
     if feed_phase::is_ended(phase) {
@@ -55,7 +48,8 @@ enum Due {
 
 // 3 and 4 are what was read of the page.
 fn page_due(core: Core, read: PageRead) -> Due
-    ensures { λ r. ⌜ ((crc : Bytes → ℕ) (b : Bytes) (tally : Counting) (m : Lent) → toldRead read ≡ readPage crc b → isEnded (core .phase) ≡ false → isShort m ≡ false → DueIs r (readings crc) core tally m b) ⌝ }
+    ensures { λ r. ⌜ ((crc : Bytes → ℕ) (b : Bytes) (tally : Counting) (m : Lent) →
+        Unrefused crc core read b m → DueIs r (readings crc) core tally m b) ⌝ }
 {
     match read {
         PageRead::Page(h) => {
@@ -69,33 +63,23 @@ fn page_due(core: Core, read: PageRead) -> Due
     }
 }
 
-fn of_audio(fed: AudioFed) -> CoreFed
-    ensures { λ r. ⌜ toldCore r ≡ toldAudio fed ⌝ }
+// An audio page with room is an audio page, so the second answer is never given here.
+fn of_audio(fed: AudioFed) -> PageFed
+    ensures { λ r. ⌜ ((t : Told Taken) → toldAudio fed ≡ some t → toldPage r ≡ t) ⌝ }
 {
     match fed {
-        AudioFed::Accepted(core, tally, counts) => CoreFed::Accepted(core, tally, counts),
-        AudioFed::Refused(why) => CoreFed::Refused(why),
+        AudioFed::Page(page) => page,
+        AudioFed::NotAudio => PageFed::Refused(Refusal::ShortRoom),
     }
 }
 
-// A header page lists nothing.
-fn of_header(fed: HeaderFed) -> CoreFed
-    ensures { λ r. ⌜ toldCore r ≡ toldHeader fed ⌝ }
+// Nor of a header page.
+fn of_header(fed: HeaderFed) -> PageFed
+    ensures { λ r. ⌜ ((t : Told Taken) → toldHeader fed ≡ some t → toldPage r ≡ t) ⌝ }
 {
     match fed {
-        HeaderFed::Accepted(core, tally) => CoreFed::Accepted(
-            core,
-            tally,
-            Counts {
-                packets: 0,
-                samples: 0,
-                kept: 0,
-                skipped: 0,
-                trimmed: 0,
-                hole: 0,
-            },
-        ),
-        HeaderFed::Refused(why) => CoreFed::Refused(why),
+        HeaderFed::Page(page) => page,
+        HeaderFed::NotHeader => PageFed::Refused(Refusal::ShortRoom),
     }
 }
 
@@ -107,10 +91,13 @@ fn feed_read(
     page: &[u8],
     carry: &mut [u8],
     ends: &mut [u64],
-    sizes: &mut [u64],
+    lengths: &mut [u64],
     kept: &mut [u64],
-) -> CoreFed
-    ensures { λ r. ⌜ ((crc : Bytes → ℕ) → toldRead read ≡ readPage crc (now (page .entry)) → isEnded (core .phase) ≡ false → isShort (lentOf (now (carry .entry)) (now (ends .entry)) (now (sizes .entry)) (now (kept .entry))) ≡ false → FedIs (feedBy (readings crc) (readerOf core tally) (lentOf (now (carry .entry)) (now (ends .entry)) (now (sizes .entry)) (now (kept .entry))) (now (page .entry))) (toldCore r) (now (carry .exit)) (now (ends .exit)) (now (sizes .exit)) (now (kept .exit))) ⌝ }
+) -> PageFed
+    ensures { λ r. ⌜ ((crc : Bytes → ℕ) →
+        Unrefused crc core read (now (page .entry)) (atEntry carry ends lengths kept) →
+        Feeds (readings crc) (readerOf core tally) (now (page .entry))
+        (atEntry carry ends lengths kept) (toldPage r) (atExit carry ends lengths kept)) ⌝ }
 {
     match page_due(core, read) {
         Due::Page(due, h) => {
@@ -126,13 +113,13 @@ fn feed_read(
                     body,
                     carry,
                     ends,
-                    sizes,
+                    lengths,
                     kept,
                 ));
             }
             of_header(feed_header::feed_header(due, tally, h, lacing, body, carry))
         }
-        Due::Refused(why) => CoreFed::Refused(why),
+        Due::Refused(why) => PageFed::Refused(why),
     }
 }
 
@@ -145,18 +132,20 @@ pub fn feed_core(
     page: &[u8],
     carry: &mut [u8],
     ends: &mut [u64],
-    sizes: &mut [u64],
+    lengths: &mut [u64],
     kept: &mut [u64],
-) -> CoreFed
-    ensures { λ r. ⌜ FedIs (feedBy (readings pageCrc) (readerOf core tally) (lentOf (now (carry .entry)) (now (ends .entry)) (now (sizes .entry)) (now (kept .entry))) (now (page .entry))) (toldCore r) (now (carry .exit)) (now (ends .exit)) (now (sizes .exit)) (now (kept .exit)) ⌝ }
+) -> PageFed
+    ensures { λ r. ⌜
+        Feeds (readings pageCrc) (readerOf core tally) (now (page .entry))
+        (atEntry carry ends lengths kept) (toldPage r) (atExit carry ends lengths kept) ⌝ }
 {
     let phase = core.phase;
-    match early(phase, carry.len(), ends.len(), sizes.len(), kept.len()) {
+    match check_unread(phase, carry.len(), ends.len(), lengths.len(), kept.len()) {
         Checked::Passed => {
             let read = page_reader::read_page(page);
-            feed_read(core, tally, read, page, carry, ends, sizes, kept)
+            feed_read(core, tally, read, page, carry, ends, lengths, kept)
         }
-        Checked::Refused(why) => CoreFed::Refused(why),
+        Checked::Refused(why) => PageFed::Refused(why),
     }
 }
 
@@ -169,17 +158,19 @@ pub fn feed_core_with(
     page: &[u8],
     carry: &mut [u8],
     ends: &mut [u64],
-    sizes: &mut [u64],
+    lengths: &mut [u64],
     kept: &mut [u64],
-) -> CoreFed
-    ensures { λ r. ⌜ FedIs (feedBy (readings (pageSliced (entryIn (now (tables .entry))))) (readerOf core tally) (lentOf (now (carry .entry)) (now (ends .entry)) (now (sizes .entry)) (now (kept .entry))) (now (page .entry))) (toldCore r) (now (carry .exit)) (now (ends .exit)) (now (sizes .exit)) (now (kept .exit)) ⌝ }
+) -> PageFed
+    ensures { λ r. ⌜
+        Feeds (readings (pageSliced (entryIn (now (tables .entry))))) (readerOf core tally) (now (page .entry))
+        (atEntry carry ends lengths kept) (toldPage r) (atExit carry ends lengths kept) ⌝ }
 {
     let phase = core.phase;
-    match early(phase, carry.len(), ends.len(), sizes.len(), kept.len()) {
+    match check_unread(phase, carry.len(), ends.len(), lengths.len(), kept.len()) {
         Checked::Passed => {
             let read = page_reader::read_page_with(tables, page);
-            feed_read(core, tally, read, page, carry, ends, sizes, kept)
+            feed_read(core, tally, read, page, carry, ends, lengths, kept)
         }
-        Checked::Refused(why) => CoreFed::Refused(why),
+        Checked::Refused(why) => PageFed::Refused(why),
     }
 }

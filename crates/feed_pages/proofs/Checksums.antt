@@ -15,7 +15,8 @@ use Rattle.stream.specs.Readings.{readings}
 use Rattle.stream.specs.State.{State, expecting}
 use Rattle.stream.specs.Packets.{Seen, seen, lengthsOf}
 use Rattle.stream.specs.Rules.{packetChecks, timeChecks, checksOn, startOn, nextOn}
-use Rattle.stream.specs.Feed.{Reader, view, entriesOn, countsOn, skipOn, Lent, isShort, fedBy, feed}
+use Rattle.stream.specs.Feed.{Reader, view, entriesOn, countsOn, skipOn, fedBy, feed}
+use Rattle.stream.specs.Lent.{Lent, isShort}
 use Rattle.page_end.specs.End.{endAt}
 use Rattle.feed_pages.specs.Run.{isFull, past, Reached, Turn, goes, stops, full, fedTo, turnTo, turn, follow, runs, started, feedPages}
 

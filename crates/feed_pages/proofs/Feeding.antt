@@ -11,25 +11,26 @@ use Rattle.octets.specs.Octets.{Bytes, Octets}
 use Rattle.refusal.specs.Told.{Told, gives, refuses}
 use Rattle.stream.specs.declared.Counts.{Counts}
 use Rattle.stream.specs.Readings.{Readings}
-use Rattle.stream.specs.Feed.{Reader as Known, Lent, lentOf, Taken, FedIs, feed}
+use Rattle.stream.specs.Feed.{Reader as Known, Taken, FedIs, feed}
+use Rattle.stream.specs.Lent.{Lent, lentOf}
 use Rattle.reader.specs.Answers.{knownAs}
 use Rattle.page_end.specs.End.{endAt}
 use Rattle.feed_pages.specs.declared.Progress.{Progress}
-use Rattle.feed_pages.specs.Run.{isFull, past, whole, cut, full, stops, after, turn, Fits}
+use Rattle.feed_pages.specs.Run.{isFull, past, whole, cut, full, stops, after, turn, Inside}
 use Rattle.feed_pages.specs.Answers.{reached}
 use Rattle.feed_pages.proofs.Turns.{shows}
 
 -- ---- a list from place n on
 
-abbrev pub behind : ℕ → List ℕ → List ℕ
-behind n l = take (length l - n) (drop n l)
+abbrev pub fromPlace : ℕ → List ℕ → List ℕ
+fromPlace n l = take (length l - n) (drop n l)
 
 -- the list with ys there
 abbrev pub back : ℕ → List ℕ → List ℕ → List ℕ
 back n l ys = take n l ++ (ys ++ drop (length l - n) (drop n l))
 
-behind-all : (n : ℕ) (l : List ℕ) → behind n l ≡ drop n l
-behind-all n l = take-all (length l - n) (drop n l) (omega (arith, length-drop n l))
+fromPlace-all : (n : ℕ) (l : List ℕ) → fromPlace n l ≡ drop n l
+fromPlace-all n l = take-all (length l - n) (drop n l) (omega (arith, length-drop n l))
 
 back-all : (n : ℕ) (l ys : List ℕ) → back n l ys ≡ take n l ++ ys
 back-all n l ys = rw (drop-of-length-le (drop n l) (rest n l), append-nil ys)
@@ -49,16 +50,16 @@ module _ (R : Readings) (b : Bytes) (p : Progress) (m : Lent) where
     unfolding turn
     turn-cut e = rw (places, e)
 
-    module _ (e : ℕ) (ends-at : endAt b (p .bytes) ≡ some e) {t : Told Taken} {carry : Bytes} {ends sizes kept : List ℕ}
-        (is : FedIs (feed R (knownAs (p .reader)) (lentOf (m .carry) (behind (p .packets) (m .ends)) (behind (p .packets) (m .sizes)) (behind (p .packets) (m .kept))) (take (e - p .bytes) (drop (p .bytes) b))) t carry ends sizes kept) where
-      same : lentOf (m .carry) (behind (p .packets) (m .ends)) (behind (p .packets) (m .sizes)) (behind (p .packets) (m .kept)) ≡ past (p .packets) m
-      same = rw (behind-all (p .packets) (m .ends), behind-all (p .packets) (m .sizes), behind-all (p .packets) (m .kept))
+    module _ (e : ℕ) (ends-at : endAt b (p .bytes) ≡ some e) {t : Told Taken} {carry : Bytes} {ends lengths kept : List ℕ}
+        (is : FedIs (feed R (knownAs (p .reader)) (lentOf (m .carry) (fromPlace (p .packets) (m .ends)) (fromPlace (p .packets) (m .lengths)) (fromPlace (p .packets) (m .kept))) (take (e - p .bytes) (drop (p .bytes) b))) t (lentOf carry ends lengths kept)) where
+      same : lentOf (m .carry) (fromPlace (p .packets) (m .ends)) (fromPlace (p .packets) (m .lengths)) (fromPlace (p .packets) (m .kept)) ≡ past (p .packets) m
+      same = rw (fromPlace-all (p .packets) (m .ends), fromPlace-all (p .packets) (m .lengths), fromPlace-all (p .packets) (m .kept))
 
-      by-parts : FedIs (feed R (knownAs (p .reader)) (past (p .packets) m) (take (e - p .bytes) (drop (p .bytes) b))) t carry ends sizes kept
+      by-parts : FedIs (feed R (knownAs (p .reader)) (past (p .packets) m) (take (e - p .bytes) (drop (p .bytes) b))) t (lentOf carry ends lengths kept)
       by-parts = rw same at is
 
       abbrev end : Lent
-      end = lentOf carry (back (p .packets) (m .ends) ends) (back (p .packets) (m .sizes) sizes) (back (p .packets) (m .kept) kept)
+      end = lentOf carry (back (p .packets) (m .ends) ends) (back (p .packets) (m .lengths) lengths) (back (p .packets) (m .kept) kept)
 
       pub turn-told : {x : Told Taken} → t ≡ x → after (reached p) e x end ≡ turn R b (reached p) m
       unfolding turn
@@ -67,18 +68,15 @@ module _ (R : Readings) (b : Bytes) (p : Progress) (m : Lent) where
             places,
             ends-at,
             ← by-parts .told,
-            ← by-parts .held,
-            ← by-parts .ended,
-            ← by-parts .sized,
-            ← by-parts .keeps,
+            ← by-parts .lent,
             q,
             back-all (p .packets) (m .ends) ends,
-            back-all (p .packets) (m .sizes) sizes,
+            back-all (p .packets) (m .lengths) lengths,
             back-all (p .packets) (m .kept) kept,
           )
 
       -- at most 255 packets
-      module _ (o : Octets b) (fits : Fits (reached p) b m) {next : Known} {c : Counts} (q : t ≡ gives (record { reader = next; counts = c })) where
+      module _ (o : Octets b) (fits : Inside (reached p) b m) {next : Known} {c : Counts} (q : t ≡ gives (record { reader = next; counts = c })) where
         gave : feed R (knownAs (p .reader)) (past (p .packets) m) (take (e - p .bytes) (drop (p .bytes) b)) .told ≡ gives (record { reader = next; counts = c })
         gave = sym (by-parts .told) ∙ q
 

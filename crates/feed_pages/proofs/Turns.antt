@@ -11,18 +11,19 @@ use Rattle.octets.specs.Octets.{Bytes, Octets}
 use Rattle.octets.proofs.Parts.{octets-take, octets-drop}
 use Rattle.refusal.specs.Told.{Told, gives, refuses}
 use Rattle.stream.specs.Readings.{Readings}
-use Rattle.stream.specs.Feed.{Entry, Lent, Taken, Fed, feed}
+use Rattle.stream.specs.Feed.{Entry, Taken, Fed, feed}
+use Rattle.stream.specs.Lent.{Lent}
 use Rattle.stream.specs.Statements.{HasFirst, Shows}
 use Rattle.stream.proofs.Lists.{accepted-shows}
 use Rattle.page_end.specs.End.{endAt}
 use Rattle.page_end.proofs.Ends.{end-inside}
-use Rattle.feed_pages.specs.Run.{isFull, past, whole, Reached, Why, Turn, goes, stops, full, after, turnTo, turn, runs, follow, Fits}
+use Rattle.feed_pages.specs.Run.{isFull, past, whole, Reached, Why, Turn, goes, stops, full, after, turnTo, turn, runs, follow, Inside}
 
 -- stopping is not going on
 stops-goes : {A : Type 0} {why : Why} {m n : Lent} {a : Reached} → stops why m ≡ goes a n → A
 stops-goes e = let z : _≡_ {A = ℕ} 0 1 = cc in absurd (omega arith)
 
--- n places filled, and those that an accepted page filled behind them
+-- n places filled, and those that an accepted page filled fromPlace them
 places : (n : ℕ) (l end : List ℕ) (field : Entry → ℕ) (es : List Entry) (old : List ℕ) → n ≤ length l → HasFirst old end (map field es)
     → n + length es ≤ length (take n l ++ end)
 places n l end field es old h is =
@@ -31,11 +32,11 @@ places n l end field es old h is =
 
 -- a turn from a to `next`, with the lent memory n at its end
 pub record Onward (a : Reached) (b : Bytes) (next : Reached) (n : Lent) : Type 0 where
-  pub fits : Fits next b n
+  pub fits : Inside next b n
   pub moves : a .bytes < next .bytes
   pub page : next .pages ≡ a .pages + 1
 
-module _ (R : Readings) (b : Bytes) (o : Octets b) (a : Reached) (m : Lent) (fits : Fits a b m) where
+module _ (R : Readings) (b : Bytes) (o : Octets b) (a : Reached) (m : Lent) (fits : Inside a b m) where
   -- the page that ends at e
   abbrev page : ℕ → Bytes
   page e = take (e - a .bytes) (drop (a .bytes) b)
@@ -52,7 +53,7 @@ module _ (R : Readings) (b : Bytes) (o : Octets b) (a : Reached) (m : Lent) (fit
       let there = end-inside b (a .bytes) e h in
       let is = shows e t g in
       let x = places (a .packets) (m .ends) (fed e .lent .ends) (λ (n : Entry). n .end) (fed e .entries) (drop (a .packets) (m .ends)) (fits .ends) (is .ends) in
-      let y = places (a .packets) (m .sizes) (fed e .lent .sizes) (λ (n : Entry). n .size) (fed e .entries) (drop (a .packets) (m .sizes)) (fits .sizes) (is .sizes) in
+      let y = places (a .packets) (m .lengths) (fed e .lent .lengths) (λ (n : Entry). n .samples) (fed e .entries) (drop (a .packets) (m .lengths)) (fits .lengths) (is .lengths) in
       let z = places (a .packets) (m .kept) (fed e .lent .kept) (λ (n : Entry). n .kept) (fed e .entries) (drop (a .packets) (m .kept)) (fits .kept) (is .kept) in
       let few = fits .few in
       let i : e ≡ next .bytes = cc in
@@ -60,7 +61,7 @@ module _ (R : Readings) (b : Bytes) (o : Octets b) (a : Reached) (m : Lent) (fit
       let k : a .packets + t .counts .packets ≡ next .packets = cc in
       let l : whole (a .packets) m (fed e .lent) ≡ n = cc in
       rw (← i, ← j, ← k, ← l, is .packets)
-      (record { fits = record { inside = there .1; few = omega (arith, there .0); ends = x; sizes = y; kept = z }; moves = there .0; page = refl })
+      (record { fits = record { bytes = there .within; few = omega (arith, there .after); ends = x; lengths = y; kept = z }; moves = there .after; page = refl })
 
   pub turn-onward : {next : Reached} {n : Lent} → turn R b a m ≡ goes next n → Onward a b next n
   unfolding turn
@@ -79,23 +80,23 @@ module _ (R : Readings) (b : Bytes) (o : Octets b) (a : Reached) (m : Lent) (fit
   stays : (n : ℕ) (l end : List ℕ) → n ≤ length l → n ≤ length (take n l ++ end)
   stays n l end h = omega (arith, length-append (take n l) end, length-take n l)
 
-  pub turn-stops : {why : Why} {n : Lent} → turn R b a m ≡ stops why n → Fits a b n
+  pub turn-stops : {why : Why} {n : Lent} → turn R b a m ≡ stops why n → Inside a b n
   unfolding turn
   turn-stops {why} {n} q = by (isFull (a .packets) m) (endAt b (a .bytes)) q
     where
-      fed-stops : (e : ℕ) (t : Told Taken) → after a e t (whole (a .packets) m (fed e .lent)) ≡ stops why n → Fits a b n
+      fed-stops : (e : ℕ) (t : Told Taken) → after a e t (whole (a .packets) m (fed e .lent)) ≡ stops why n → Inside a b n
       fed-stops e (gives t) k = stops-goes (sym k)
       fed-stops e (refuses t) k =
           let l : whole (a .packets) m (fed e .lent) ≡ n = cc in
           rw (← l) (record {
-            inside = fits .inside;
+            bytes = fits .bytes;
             few = fits .few;
             ends = stays (a .packets) (m .ends) (fed e .lent .ends) (fits .ends);
-            sizes = stays (a .packets) (m .sizes) (fed e .lent .sizes) (fits .sizes);
+            lengths = stays (a .packets) (m .lengths) (fed e .lent .lengths) (fits .lengths);
             kept = stays (a .packets) (m .kept) (fed e .lent .kept) (fits .kept);
           })
 
-      by : (x : Bool) (y : Option ℕ) → pick x (stops full m) (turnTo R b a m y) ≡ stops why n → Fits a b n
+      by : (x : Bool) (y : Option ℕ) → pick x (stops full m) (turnTo R b a m y) ≡ stops why n → Inside a b n
       by true y k = let l : m ≡ n = cc in rw (← l) fits
       by false none k = let l : m ≡ n = cc in rw (← l) fits
       by false (some e) k = fed-stops e (fed e .told) k

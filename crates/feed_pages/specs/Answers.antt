@@ -1,6 +1,6 @@
 -- What the code of a run answers. Assumes nothing.
 use Rattle.refusal.specs.Numbers.{numberOf}
-use Rattle.stream.specs.Feed.{Lent}
+use Rattle.stream.specs.Lent.{Lent}
 use Rattle.reader.specs.Answers.{knownAs}
 use Rattle.feed_pages.specs.declared.Progress.{Progress}
 use Rattle.feed_pages.specs.declared.Stop.{Stop}

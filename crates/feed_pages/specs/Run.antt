@@ -2,10 +2,9 @@
 -- refusal, at a page that the buffer's end cuts, or where fewer than 255 places are left (document 01, "Refusals by number",
 -- for each page). Assumes nothing.
 use Prim.Native.Nat.{ℕ, zero, suc, _+_, _-_, _%_, _^_, _≤_}
-use mathlib.Core.Bool.{Bool, _||_}
+use mathlib.Core.Bool.{Bool}
 use mathlib.Core.List.{_++_}
 use mathlib.Core.Option.{Option, none, some}
-use lib.Dec.{ltb}
 use lib.ListN.{length, take, drop}
 use Rattle.octets.specs.Pick.{pick}
 use Rattle.octets.specs.Octets.{Bytes}
@@ -13,26 +12,26 @@ use Rattle.refusal.specs.Told.{Told, gives, refuses}
 use Rattle.page_end.specs.End.{endAt}
 use Rattle.stream.specs.declared.Counts.{Counts}
 use Rattle.stream.specs.Readings.{Readings}
-use Rattle.stream.specs.Feed.{Reader, Lent, listMax, Taken, Fed, feed}
+use Rattle.stream.specs.Feed.{Reader, Taken, Fed, feed}
+use Rattle.stream.specs.Lent.{Lent, shortLists}
 use Rattle.feed_pages.specs.declared.Sums.{Sums}
 
 -- ---- the lent memory
 
 -- fewer than 255 places are left where n are filled
 unfoldable pub isFull : ℕ → Lent → Bool
-isFull n m =
-    ltb (length (m .ends) - n) listMax || (ltb (length (m .sizes) - n) listMax || ltb (length (m .kept) - n) listMax)
+isFull n m = shortLists (length (m .ends) - n) (length (m .lengths) - n) (length (m .kept) - n)
 
 -- the lists past the n places filled
 abbrev pub past : ℕ → Lent → Lent
-past n m = record { carry = m .carry; ends = drop n (m .ends); sizes = drop n (m .sizes); kept = drop n (m .kept) }
+past n m = record { carry = m .carry; ends = drop n (m .ends); lengths = drop n (m .lengths); kept = drop n (m .kept) }
 
 -- the whole lists again, e being what a feeding made of those parts
 abbrev pub whole : ℕ → Lent → Lent → Lent
 whole n m e = record {
   carry = e .carry;
   ends = take n (m .ends) ++ e .ends;
-  sizes = take n (m .sizes) ++ e .sizes;
+  lengths = take n (m .lengths) ++ e .lengths;
   kept = take n (m .kept) ++ e .kept;
 }
 
@@ -117,9 +116,9 @@ feedPages R r m b = runs (suc (length b)) R b (started r) m
 -- ---- what holds of every run
 
 -- it is within its buffer b and its lists, and has no more pages than bytes
-pub record Fits (a : Reached) (b : Bytes) (m : Lent) : Type 0 where
-  pub inside : a .bytes ≤ length b
+pub record Inside (a : Reached) (b : Bytes) (m : Lent) : Type 0 where
+  pub bytes : a .bytes ≤ length b
   pub few : a .pages ≤ a .bytes
   pub ends : a .packets ≤ length (m .ends)
-  pub sizes : a .packets ≤ length (m .sizes)
+  pub lengths : a .packets ≤ length (m .lengths)
   pub kept : a .packets ≤ length (m .kept)

@@ -4,8 +4,9 @@ use mathlib.Core.Path.{_≡_}
 use lib.ListN.{length}
 use Rattle.octets.specs.Octets.{Bytes, Octets}
 use Rattle.stream.specs.Readings.{Readings}
-use Rattle.stream.specs.Feed.{Reader, Lent}
-use Rattle.feed_pages.specs.Run.{runs, started, feedPages, Fits}
+use Rattle.stream.specs.Feed.{Reader}
+use Rattle.stream.specs.Lent.{Lent}
+use Rattle.feed_pages.specs.Run.{runs, started, feedPages, Inside}
 
 -- a run never stops for want of turns: more of them change nothing
 abbrev pub EnoughTurns : Type 0
@@ -17,4 +18,4 @@ EnoughTurns =
 abbrev pub RunFits : Type 0
 RunFits =
     (R : Readings) (r : Reader) (m : Lent) (b : Bytes) → Octets b
-    → Fits (feedPages R r m b .reached) b (feedPages R r m b .lent)
+    → Inside (feedPages R r m b .reached) b (feedPages R r m b .lent)

@@ -1,16 +1,12 @@
 // The pages of a lent buffer fed to a reader in one call, each where it lies. The checksum's tables are made once.
 ghost use mathlib.Core.Path.{_≡_};
-ghost use mathlib.Core.Bool.{_||_};
-ghost use Prim.Native.Nat.{_-_, _≤_};
-ghost use lib.Dec.{ltb};
-ghost use lib.ListN.{length};
 ghost use Rattle.page_crc.specs.Crc.{pageCrc};
 ghost use Rattle.page_crc_tables.specs.Table.{entryIn};
 ghost use Rattle.page_crc.specs.Sliced.{pageSliced};
 ghost use Rattle.stream.specs.Readings.{readings};
-ghost use Rattle.stream.specs.Feed.{lentOf};
+ghost use Rattle.stream.specs.Lent.{lentOf, atEntry, atExit};
 ghost use Rattle.reader.specs.Answers.{knownAs};
-ghost use Rattle.feed_pages.specs.Run.{added, Fits, turn as turnBy, feedPages};
+ghost use Rattle.feed_pages.specs.Run.{added, Inside, turn as turnBy, feedPages};
 ghost use Rattle.feed_pages.specs.Answers.{reached, toldTurn, toldRun};
 use page_end::End;
 use reader::Fed;
@@ -66,12 +62,6 @@ fn added_to(s: Sums, c: Counts) -> Sums
     }
 }
 
-fn is_full(ends: usize, sizes: usize, kept: usize) -> bool
-    ensures { λ r. ⌜ r ≡ (ltb ends 255 || (ltb sizes 255 || ltb kept 255)) ⌝ }
-{
-    (ends < 255) | ((sizes < 255) | (kept < 255))
-}
-
 // Feeds the next page.
 fn feed_next(
     tables: &[u32; 4096],
@@ -79,17 +69,19 @@ fn feed_next(
     buffer: &[u8],
     carry: &mut [u8],
     ends: &mut [u64],
-    sizes: &mut [u64],
+    lengths: &mut [u64],
     kept: &mut [u64],
 ) -> Turn
-    requires { ⌜ Fits (reached p) (now buffer) (lentOf (now carry) (now ends) (now sizes) (now kept)) ⌝ }
-    ensures { λ r. ⌜ toldTurn r (lentOf (now (carry .exit)) (now (ends .exit)) (now (sizes .exit)) (now (kept .exit))) ≡ turnBy (readings (pageSliced (entryIn (now (tables .entry))))) (now (buffer .entry)) (reached p) (lentOf (now (carry .entry)) (now (ends .entry)) (now (sizes .entry)) (now (kept .entry))) ⌝ }
+    requires { ⌜ Inside (reached p) (now buffer) (lentOf (now carry) (now ends) (now lengths) (now kept)) ⌝ }
+    ensures { λ r. ⌜ toldTurn r (atExit carry ends lengths kept)
+        ≡ turnBy (readings (pageSliced (entryIn (now (tables .entry))))) (now (buffer .entry))
+        (reached p) (atEntry carry ends lengths kept) ⌝ }
 {
     let at = p.bytes;
     let n = p.packets;
     let reader = p.reader;
     let sums = p.sums;
-    if is_full(ends.len() - n, sizes.len() - n, kept.len() - n) {
+    if feed_memory::are_lists_short(ends.len() - n, lengths.len() - n, kept.len() - n) {
         return Turn::Stops(Stop::Full);
     }
     match page_end::end_at(buffer, at) {
@@ -100,7 +92,7 @@ fn feed_next(
             &buffer[at..end],
             carry,
             &mut ends[n..],
-            &mut sizes[n..],
+            &mut lengths[n..],
             &mut kept[n..],
         ) {
             Fed::Accepted(next, counts) => Turn::Goes(Progress {
@@ -122,10 +114,12 @@ fn run(
     buffer: &[u8],
     carry: &mut [u8],
     ends: &mut [u64],
-    sizes: &mut [u64],
+    lengths: &mut [u64],
     kept: &mut [u64],
 ) -> PagesFed
-    ensures { λ r. ⌜ toldRun r (lentOf (now (carry .exit)) (now (ends .exit)) (now (sizes .exit)) (now (kept .exit))) ≡ feedPages (readings (pageSliced (entryIn (now (tables .entry))))) (knownAs reader) (lentOf (now (carry .entry)) (now (ends .entry)) (now (sizes .entry)) (now (kept .entry))) (now (buffer .entry)) ⌝ }
+    ensures { λ r. ⌜ toldRun r (atExit carry ends lengths kept)
+        ≡ feedPages (readings (pageSliced (entryIn (now (tables .entry))))) (knownAs reader)
+        (atEntry carry ends lengths kept) (now (buffer .entry)) ⌝ }
 {
     let mut progress = Progress {
         reader,
@@ -141,7 +135,7 @@ fn run(
         },
     };
     loop {
-        match feed_next(tables, progress, buffer, carry, ends, sizes, kept) {
+        match feed_next(tables, progress, buffer, carry, ends, lengths, kept) {
             Turn::Goes(next) => progress = next,
             Turn::Stops(stop) => return PagesFed { progress, stop },
         }
@@ -157,11 +151,12 @@ pub fn feed_pages(
     buffer: &[u8],
     carry: &mut [u8],
     ends: &mut [u64],
-    sizes: &mut [u64],
+    lengths: &mut [u64],
     kept: &mut [u64],
 ) -> PagesFed
-    ensures { λ r. ⌜ toldRun r (lentOf (now (carry .exit)) (now (ends .exit)) (now (sizes .exit)) (now (kept .exit))) ≡ feedPages (readings pageCrc) (knownAs reader) (lentOf (now (carry .entry)) (now (ends .entry)) (now (sizes .entry)) (now (kept .entry))) (now (buffer .entry)) ⌝ }
+    ensures { λ r. ⌜ toldRun r (atExit carry ends lengths kept)
+        ≡ feedPages (readings pageCrc) (knownAs reader) (atEntry carry ends lengths kept) (now (buffer .entry)) ⌝ }
 {
     let tables = page_crc_tables::table::tables();
-    run(&tables, reader, buffer, carry, ends, sizes, kept)
+    run(&tables, reader, buffer, carry, ends, lengths, kept)
 }

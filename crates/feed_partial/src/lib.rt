@@ -1,14 +1,13 @@
 // What feeding tells of the bytes that the end of an input cuts off inside a page. A program that asks here need not feed them.
 ghost use mathlib.Core.Path.{_≡_};
-ghost use Rattle.refusal.specs.Numbers.{numberOf};
 ghost use Rattle.reader.specs.Answers.{knownAs};
-ghost use Rattle.feed_partial.specs.Rest.{restNumber};
+ghost use Rattle.feed_partial.specs.Rest.{restRefusal};
 use reader::Reader;
 use refusal::Refusal;
 
 // 2 after an end, and else 3.
 pub fn refusal_of_rest(reader: Reader) -> Refusal
-    ensures { λ r. ⌜ numberOf r ≡ restNumber (knownAs reader) ⌝ }
+    ensures { λ r. ⌜ r ≡ restRefusal (knownAs reader) ⌝ }
 {
     if reader::is_ended(reader) {
         Refusal::AfterEnd

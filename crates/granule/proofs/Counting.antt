@@ -28,8 +28,8 @@ skip-after skip d j = by (ltb j (skip - d)) refl
     by true e = lt-ltb (d + j) skip (let h : j < skip - d = ltb-true j (skip - d) e in omega arith)
     by false e = le-ltb (d + j) skip (let h : skip - d ≤ j = ltb-false j (skip - d) e in omega arith)
 
-further : (at d j : ℕ) → at + suc (d + j) ≡ at + d + suc j
-further at d j = omega arith
+next-place : (at d j : ℕ) → at + suc (d + j) ≡ at + d + suc j
+next-place at d j = omega arith
 
 pub samples-in-parts : SamplesInParts
 unfolding keptOf trimmedOf
@@ -37,11 +37,11 @@ samples-in-parts skip last g at d e = record {
   kept = tally-parts (isKept skip last g at) d e
       ∙ ap (λ (n : ℕ). tally (isKept skip last g at) d + n)
       (tally-same (λ (j : ℕ). isKept skip last g at (d + j)) (isKept (skip - d) last g (at + d))
-      (λ (j : ℕ). ap₂ (λ (m : ℕ) (b : Bool). not (last && ltb g m) && not b) (further at d j) (skip-after skip d j)) e);
+      (λ (j : ℕ). ap₂ (λ (m : ℕ) (b : Bool). not (last && ltb g m) && not b) (next-place at d j) (skip-after skip d j)) e);
   trimmed = tally-parts (isTrimmed last g at) d e
       ∙ ap (λ (n : ℕ). tally (isTrimmed last g at) d + n)
       (tally-same (λ (j : ℕ). isTrimmed last g at (d + j)) (isTrimmed last g (at + d))
-      (λ (j : ℕ). ap (λ (m : ℕ). last && ltb g m) (further at d j)) e);
+      (λ (j : ℕ). ap (λ (m : ℕ). last && ltb g m) (next-place at d j)) e);
 }
 
 -- ---- closed forms: one more sample
@@ -64,13 +64,13 @@ module _ (room skip n : ℕ) where
   within : skip ≤ n → n < room → (min room n - min skip n) + 1 ≡ min room (suc n) - min skip (suc n)
   within p q = omega arith
 
-  early : n < skip → (min room n - min skip n) + 0 ≡ min room (suc n) - min skip (suc n)
-  early p = omega arith
+  still-skipping : n < skip → (min room n - min skip n) + 0 ≡ min room (suc n) - min skip (suc n)
+  still-skipping p = omega arith
 
 cut-turn : (skip g at n : ℕ) (a b : Bool) → ltb g (at + suc n) ≡ a → ltb n skip ≡ b
     → (min (g - at) n - min skip n) + one (not a && not b) ≡ min (g - at) (suc n) - min skip (suc n)
 cut-turn skip g at n true b p q = past (g - at) skip n (let h : g < at + suc n = ltb-true g (at + suc n) p in omega arith)
-cut-turn skip g at n false true p q = early (g - at) skip n (ltb-true n skip q)
+cut-turn skip g at n false true p q = still-skipping (g - at) skip n (ltb-true n skip q)
 cut-turn skip g at n false false p q =
     within (g - at) skip n (ltb-false n skip q) (let h : at + suc n ≤ g = ltb-false g (at + suc n) p in omega arith)
 

@@ -9,6 +9,7 @@ use lib.Dec.{ltb}
 use Rattle.octets.specs.Pick.{pick}
 use Rattle.refusal.specs.declared.Refusal.the-variants.{NoPosition, BelowPreSkip, GranuleTooSmall}
 use Rattle.refusal.specs.Checks.{_when_, firstOf}
+use Rattle.refusal.specs.Numbers.{numberOf}
 use Rattle.refusal.specs.Told.{gives, refuses}
 use Rattle.refusal.proofs.Checks.{no-refusal, passed}
 use Rattle.granule.specs.declared.Position.{Position}
@@ -69,11 +70,11 @@ placed-whole p false g d h = rw (trimmed-none false g d (omega arith))
 
 -- ---- the refusals and the places, by cases
 
-pub no-position : (preskip g d : ℕ) → judge Joined preskip g d true ≡ refuses 19
+pub no-position : (preskip g d : ℕ) → judge Joined preskip g d true ≡ refuses (numberOf NoPosition)
 unfolding judge firstOf
 no-position preskip g d = refl
 
-pub below-preskip : (preskip g d : ℕ) → g < preskip → judge Unset preskip g d true ≡ refuses 18
+pub below-preskip : (preskip g d : ℕ) → g < preskip → judge Unset preskip g d true ≡ refuses (numberOf BelowPreSkip)
 unfolding judge firstOf
 below-preskip preskip g d h = rw (lt-ltb g preskip h)
 
@@ -81,7 +82,7 @@ pub last-unset : (preskip g d : ℕ) → preskip ≤ g → judge Unset preskip g
 unfolding judge firstOf
 last-unset preskip g d h = rw (le-ltb g preskip h, placed-unset true g d (λ e. absurd (true≢false e)))
 
-pub small-unset : (preskip g d : ℕ) → g < d → judge Unset preskip g d false ≡ refuses 17
+pub small-unset : (preskip g d : ℕ) → g < d → judge Unset preskip g d false ≡ refuses (numberOf GranuleTooSmall)
 unfolding judge firstOf
 small-unset preskip g d h = rw (lt-ltb g d h)
 
@@ -89,7 +90,7 @@ pub next-unset : (preskip g d : ℕ) → d ≤ g → judge Unset preskip g d fal
 unfolding judge firstOf
 next-unset preskip g d h = rw (le-ltb g d h, placed-unset false g d (λ e. h))
 
-pub small-joined : (preskip g d : ℕ) → g < d → judge Joined preskip g d false ≡ refuses 17
+pub small-joined : (preskip g d : ℕ) → g < d → judge Joined preskip g d false ≡ refuses (numberOf GranuleTooSmall)
 unfolding judge firstOf
 small-joined preskip g d h = rw (lt-ltb g d h)
 
@@ -97,7 +98,7 @@ pub next-joined : (preskip g d : ℕ) → d ≤ g → judge Joined preskip g d f
 unfolding judge firstOf
 next-joined preskip g d h = rw (le-ltb g d h, placed-joined false g d (λ e. h))
 
-pub below-at : (p preskip g d : ℕ) (last : Bool) → g < p → judge (At p) preskip g d last ≡ refuses 17
+pub below-at : (p preskip g d : ℕ) (last : Bool) → g < p → judge (At p) preskip g d last ≡ refuses (numberOf GranuleTooSmall)
 unfolding judge firstOf
 below-at p preskip g d true h = rw (lt-ltb g p h)
 below-at p preskip g d false h = let k : g < p + d = omega arith in rw (lt-ltb g (p + d) k)
@@ -106,7 +107,7 @@ pub cut-at : (p preskip g d : ℕ) → p ≤ g → g < p + d → judge (At p) pr
 unfolding judge firstOf
 cut-at p preskip g d low short = rw (le-ltb g p low, placed-cut p g d low short)
 
-pub short-at : (p preskip g d : ℕ) → g < p + d → judge (At p) preskip g d false ≡ refuses 17
+pub short-at : (p preskip g d : ℕ) → g < p + d → judge (At p) preskip g d false ≡ refuses (numberOf GranuleTooSmall)
 unfolding judge firstOf
 short-at p preskip g d h = rw (lt-ltb g (p + d) h)
 

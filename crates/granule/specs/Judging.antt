@@ -27,9 +27,17 @@ isJoined Unset = false
 isJoined Joined = true
 isJoined (At p) = false
 
--- 11: G is above 2^63 - 1 where a packet completes; where none does, it is not 2^64 - 1, which stands for none
-abbrev pub granuleWrong : Bool → ℕ → Bool
-granuleWrong done g = pick done (ltb 9223372036854775807 g) (not (eqb g 18446744073709551615))
+-- the largest granule position of an audio page
+abbrev pub granuleMax : ℕ
+granuleMax = 2 ^ 63 - 1
+
+-- all ones: the page has no granule position
+abbrev pub noGranule : ℕ
+noGranule = 2 ^ 64 - 1
+
+-- 11: where a packet completes, G is above the most that it may be; where none does, the page has a granule position
+unfoldable pub granuleWrong : ℕ → Bool → ℕ → Bool
+granuleWrong most completes g = pick completes (ltb most g) (not (eqb g noGranule))
 
 -- 17: G below D, or below P + D; on a page marked last only G below P
 abbrev pub tooSmall : Position → Bool → ℕ → ℕ → Bool
@@ -71,10 +79,6 @@ placed position last g d = record {
 
 unfoldable pub judge : Position → ℕ → ℕ → ℕ → Bool → Told Place
 judge position preskip g d last = decided (firstOf (judgeChecks position preskip g d last)) (placed position last g d)
-
--- the position of a packet's last decoded sample, in 64 bits
-abbrev pub stampOf : ℕ → ℕ → ℕ
-stampOf at d = (at + d) % 2 ^ 64
 
 -- what the code's answer tells
 abbrev pub toldJudged : Judged → Told Place

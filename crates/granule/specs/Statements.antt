@@ -10,7 +10,9 @@ use Rattle.granule.specs.Judging.{judge}
 
 -- each sample is trimmed, skipped or kept, and only one of them
 abbrev pub SamplesShared : Type 0
-SamplesShared = (skip : ℕ) (last : Bool) (g at d : ℕ) → keptOf skip last g at d + skippedOf skip last g at d + trimmedOf last g at d ≡ d
+SamplesShared =
+    (skip : ℕ) (last : Bool) (g at d : ℕ)
+    → keptOf skip last g at d + skippedOf skip last g at d + trimmedOf last g at d ≡ d
 
 -- samples counted in two parts, the second after d others
 pub record Parts (skip : ℕ) (last : Bool) (g at d e : ℕ) : Type 0 where

@@ -2,7 +2,7 @@
 ghost use mathlib.Core.Path.{_≡_};
 ghost use Prim.Native.Nat.{_-_, min};
 ghost use Rattle.granule.specs.Samples.{keptOf};
-ghost use Rattle.granule.specs.Judging.{granuleWrong, toldJudged, judge as judged, stampOf};
+ghost use Rattle.granule.specs.Judging.{granuleWrong, toldJudged, judge as judged};
 ghost use Rattle.granule.specs.Code.{firstPlace};
 ghost use Rattle.granule.specs.declared.Position.the-variants.{Unset as NoneYet, Joined as PartWay, At as Known};
 use refusal::Refusal;
@@ -28,15 +28,17 @@ pub enum Judged {
     Refused(Refusal),
 }
 
-// 11, of an audio page, where a packet completes or none.
-pub fn wrong_granule(completes: bool, g: u64) -> bool
-    ensures { λ r. ⌜ r ≡ granuleWrong completes g ⌝ }
+// The largest granule position of an audio page.
+pub const GRANULE_MAX: u64 = 9223372036854775807;
+
+// All ones: the page has no granule position.
+const NO_GRANULE: u64 = 18446744073709551615;
+
+// 11: where a packet completes, `g` is above the most that it may be; where none does, the page has a granule position.
+pub fn wrong_granule(most: u64, completes: bool, g: u64) -> bool
+    ensures { λ r. ⌜ r ≡ granuleWrong most completes g ⌝ }
 {
-    if completes {
-        g > 9223372036854775807
-    } else {
-        g != 18446744073709551615
-    }
+    if completes { g > most } else { g != NO_GRANULE }
 }
 
 // The difference, 0 where it would be below.
@@ -52,7 +54,7 @@ fn least(a: u64, b: u64) -> u64
     if a < b { a } else { b }
 }
 
-// The first page of sound that a reader sees, where it is not refused.
+// The first page with an audio packet that a reader sees, where it is not refused.
 fn place_first(g: u64, d: u64) -> Placed
     ensures { λ r. ⌜ r ≡ firstPlace g d ⌝ }
 {
@@ -131,21 +133,14 @@ pub fn judge(position: Position, preskip: u16, g: u64, d: u32, last: bool) -> Ju
     }
 }
 
-// The stamp of a packet of `length` samples that begins after position `at`, modulo 2^64.
-pub fn stamp(at: u64, length: u32) -> u64
-    ensures { λ r. ⌜ r ≡ stampOf at length ⌝ }
-{
-    std::num::wrapping_add_u64(at, length as u64)
-}
-
 // How many of a packet's samples are kept: `skip` samples are still to skip, and the page has the granule `g`.
-pub fn kept(at: u64, length: u32, skip: u16, g: u64, last: bool) -> u64
-    ensures { λ r. ⌜ r ≡ keptOf skip last g at length ⌝ }
+pub fn kept(at: u64, samples: u32, skip: u16, g: u64, last: bool) -> u64
+    ensures { λ r. ⌜ r ≡ keptOf skip last g at samples ⌝ }
 {
-    let size = length as u64;
-    let low = least(skip as u64, size);
+    let all = samples as u64;
+    let low = least(skip as u64, all);
     if last {
-        return minus(least(minus(g, at), size), low);
+        return minus(least(minus(g, at), all), low);
     }
-    minus(size, low)
+    minus(all, low)
 }

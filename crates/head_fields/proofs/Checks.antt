@@ -37,9 +37,9 @@ module _ (n : ℕ) (s : Bytes) (i : ℕ) (in-s : i < length s) where
   unfolding rightIndices
   stream-index h = rw (add-one i, drop-cons s i 0 in-s, lt-ltb (getD s i 0) n h)
 
-  pub silent-index : n ≤ getD s i 0 → getD s i 0 ≡ 255 → rightIndices n (drop (i + 1) s) ≡ rightIndices n (drop i s)
+  pub silence-index : n ≤ getD s i 0 → getD s i 0 ≡ 255 → rightIndices n (drop (i + 1) s) ≡ rightIndices n (drop i s)
   unfolding rightIndices
-  silent-index h e = rw (add-one i, drop-cons s i 0 in-s, le-ltb (getD s i 0) n h, eq-eqb (getD s i 0) 255 e)
+  silence-index h e = rw (add-one i, drop-cons s i 0 in-s, le-ltb (getD s i 0) n h, eq-eqb (getD s i 0) 255 e)
 
 -- one unused place
 module _ (s : Bytes) (i : ℕ) (in-s : i < length s) where

@@ -13,7 +13,7 @@ use Rattle.head_fields.specs.declared.Head.{Head}
 abbrev pub plainIndices : Bytes
 plainIndices = 0 ∷ 1 ∷ []
 
--- the table behind the family, which family 0 does not have: the number of streams, of coupled ones, and an index for each
+-- the table after the family, which family 0 does not have: the number of streams, of coupled ones, and an index for each
 -- channel
 abbrev pub hasTable : ℕ → Bool
 hasTable family = pick (eqb family 0) false true
@@ -63,7 +63,9 @@ rightPlain h =
 
 -- the channel mapping is right (13)
 unfoldable pub rightMapping : Head → Bool
-rightMapping h = allowedChannels (h .family) (h .channels) && (rightStreams h && rightIndices (h .coupled + h .streams) (usedPlaces h))
+rightMapping h =
+    allowedChannels (h .family) (h .channels)
+    && (rightStreams h && rightIndices (h .coupled + h .streams) (usedPlaces h))
 
 -- fields that a reading could have given (23)
 unfoldable pub rightHead : Head → Bool

@@ -1,7 +1,19 @@
 // The fields of an identification header (RFC 7845, 5.1), and when they are right.
 ghost use mathlib.Core.Path.{_≡_};
-ghost use Prim.Native.Nat.{_≤_};
-ghost use Rattle.head_fields.specs.Right.{tableLength, allowedChannels, rightStreams, rightIndices, allZero, rightPlain, rightMapping, rightHead};
+ghost use Rattle.head_fields.specs.Right.{allowedChannels, rightStreams, rightIndices, allZero};
+ghost use Rattle.head_fields.specs.Right.{rightPlain, rightMapping, rightHead};
+ghost use Rattle.head_fields.specs.Layout.{headLength};
+
+pub mod place;
+
+// What a header begins with.
+pub const SIGNATURE: [u8; 8] = *b"OpusHead";
+
+// The version that is read and written.
+pub const VERSION: u8 = 1;
+
+// How many bytes come before the table.
+pub const START_LENGTH: usize = 19;
 
 // The fields of a header. Of the mapping's 255 places one for each channel is used, and the others are zero.
 pub struct Head {
@@ -119,7 +131,7 @@ fn right_plain(h: Head) -> bool
 pub fn right_head(h: Head) -> bool
     ensures { λ r. ⌜ r ≡ rightHead h ⌝ }
 {
-    if h.version != 1 {
+    if h.version != VERSION {
         return false;
     }
     if !right_mapping(h) {
@@ -133,12 +145,12 @@ pub fn right_head(h: Head) -> bool
     all_zero(&mapping[channels..])
 }
 
-// How long the table is: two counts and an index for each channel, but none in family 0.
-pub fn table_length(family: u8, channels: u8) -> usize
-    ensures { λ r. ⌜ (r ≡ tableLength family channels) × (r ≤ 257) ⌝ }
+// How long a header is: the table has two counts and an index for each channel, and family 0 has none.
+pub fn head_length(family: u8, channels: u8) -> usize
+    ensures { λ r. ⌜ r ≡ headLength family channels ⌝ }
 {
     if family == 0 {
-        return 0;
+        return START_LENGTH;
     }
-    2 + octets::wide(channels)
+    place::INDICES + octets::wide(channels)
 }

@@ -1,28 +1,38 @@
 // The lines that show an identification header. Each public function puts one whole line into a lent buffer, or nothing where
-// it does not fit, and answers the place behind it.
+// it does not fit, and answers the place after it.
 ghost use mathlib.Core.List.{_++_};
 ghost use Prim.Native.Nat.{_+_, _≤_};
 ghost use lib.ListN.{length};
-ghost use Rattle.text_put.specs.Marks.{space, lineFeed};
+ghost use Rattle.text_put.specs.Marks.{space};
 ghost use Rattle.text_put.specs.Writing.{Put, Laid};
 ghost use Rattle.text_decimal.specs.Decimal.{decimal};
 ghost use Rattle.head_fields.specs.Right.{usedPlaces};
-ghost use Rattle.text_gain.specs.Numbers.{signedDecimal, decibelsEnd};
-ghost use Rattle.head_lines.specs.Lines.{numberLine, gainLine, spaced, mappingLine};
+ghost use Rattle.head_lines.specs.Lines.{numberLine, gainEnd, gainEndMost, gainLine};
+ghost use Rattle.head_lines.specs.Lines.{spaced, MappingRoom, MappingLaid, mappingLine};
 use head_fields::Head;
 
-// A number behind its name.
+// The most bytes that end the line of a number.
+const NUMBER_END_MAX: usize = 21;
+
+// The most bytes that end the line of a gain.
+const GAIN_END_MAX: usize = 56;
+
+// The most bytes that end the line of a mapping.
+const MAPPING_END_MAX: usize = 1021;
+
+// A number after its name.
 pub fn put_number(out: &mut [u8], at: usize, name: &[u8], x: u64) -> usize
     ensures { λ r. ⌜ Put (now (out .entry)) at (numberLine (now (name .entry)) x) r (now (out .exit)) ⌝ }
 {
-    let mut end = [0u8; 21];
+    let mut end = [0u8; NUMBER_END_MAX];
     let n = text_decimal::put_ended(&mut end, 0, x, b'\n');
     text_put::put_both(out, at, name, octets::part_of(&end, 0, n))
 }
 
+// What ends the line of a gain.
 fn lay_gain(out: &mut [u8], g: i16) -> usize
-    requires { ⌜ 56 ≤ length (now out) ⌝ }
-    ensures { λ r. ⌜ Laid (now (out .entry)) 0 (signedDecimal g ++ decibelsEnd g) r (now (out .exit)) ⌝ }
+    requires { ⌜ gainEndMost ≤ length (now out) ⌝ }
+    ensures { λ r. ⌜ Laid (now (out .entry)) 0 (gainEnd g) r (now (out .exit)) ⌝ }
 {
     let next = text_gain::put_signed(out, 0, g);
     text_gain::put_decibels(out, next, g)
@@ -32,12 +42,12 @@ fn lay_gain(out: &mut [u8], g: i16) -> usize
 pub fn put_gain(out: &mut [u8], at: usize, g: i16) -> usize
     ensures { λ r. ⌜ Put (now (out .entry)) at (gainLine g) r (now (out .exit)) ⌝ }
 {
-    let mut end = [0u8; 56];
+    let mut end = [0u8; GAIN_END_MAX];
     let n = lay_gain(&mut end, g);
     text_put::put_both(out, at, b"gain ", octets::part_of(&end, 0, n))
 }
 
-// A number behind a space.
+// A number after a space.
 fn lay_index(out: &mut [u8], at: usize, i: u8) -> usize
     requires { ⌜ at + length (space ++ decimal i) ≤ length (now out) ⌝ }
     ensures { λ r. ⌜ Laid (now (out .entry)) at (space ++ decimal i) r (now (out .exit)) ⌝ }
@@ -46,7 +56,7 @@ fn lay_index(out: &mut [u8], at: usize, i: u8) -> usize
     text_decimal::put_decimal(out, next, i as u64)
 }
 
-// Numbers, each behind a space.
+// Numbers, each after a space.
 fn lay_spaced(out: &mut [u8], s: &[u8]) -> usize
     requires { ⌜ length (spaced (now s)) ≤ length (now out) ⌝ }
     ensures { λ r. ⌜ Laid (now (out .entry)) 0 (spaced (now (s .entry))) r (now (out .exit)) ⌝ }
@@ -60,9 +70,10 @@ fn lay_spaced(out: &mut [u8], s: &[u8]) -> usize
     place
 }
 
+// What ends the line of a mapping.
 fn lay_mapping(out: &mut [u8], s: &[u8]) -> usize
-    requires { ⌜ (length (now s) ≤ 255) × (1021 ≤ length (now out)) ⌝ }
-    ensures { λ r. ⌜ Laid (now (out .entry)) 0 (spaced (now (s .entry)) ++ lineFeed) r (now (out .exit)) × (length (spaced (now (s .entry))) ≤ 1020) ⌝ }
+    requires { ⌜ MappingRoom (now out) (now s) ⌝ }
+    ensures { λ r. ⌜ MappingLaid (now (out .entry)) (now (s .entry)) r (now (out .exit)) ⌝ }
 {
     let last = lay_spaced(out, s);
     text_put::put_bytes(out, last, b"\n")
@@ -72,7 +83,7 @@ fn lay_mapping(out: &mut [u8], s: &[u8]) -> usize
 pub fn put_mapping(out: &mut [u8], at: usize, head: Head) -> usize
     ensures { λ r. ⌜ Put (now (out .entry)) at (mappingLine (usedPlaces head)) r (now (out .exit)) ⌝ }
 {
-    let mut end = [0u8; 1021];
+    let mut end = [0u8; MAPPING_END_MAX];
     let mapping = head.mapping;
     let n = lay_mapping(
         &mut end,

@@ -1,4 +1,4 @@
--- Numbers held against their limits, one after the other. Assumes nothing.
+-- Numbers compared with their bounds, one after the other. Assumes nothing.
 use mathlib.Core.Path.{_≡_}
 use mathlib.Core.Bool.{false}
 use mathlib.Core.List.{List}
@@ -12,7 +12,7 @@ use lib.Seq.{drop-cons, drop-drop, getD-drop}
 use Rattle.head_numbers.specs.Numbers.{allBelow}
 
 module _ (ws f : List ℕ) (i : ℕ) (inside : i < length ws) where
-  -- the number at i stands at the front
+  -- the number at i is at the front
   front : getD (drop i f) 0 0 ≡ getD f i 0
   front = rw (getD-drop i f 0 0, add-zero i)
 

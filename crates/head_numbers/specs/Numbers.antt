@@ -15,19 +15,19 @@ headNumbers h =
     h .version ∷ h .channels ∷ h .preskip ∷ h .rate ∷ ofZ w16 (h .gain) ∷ h .family ∷ h .streams ∷ h .coupled ∷ []
 
 -- what each number has to be below, by its field's width
-abbrev pub limits : List ℕ
-limits = 256 ∷ 256 ∷ 65536 ∷ 4294967296 ∷ 65536 ∷ 256 ∷ 256 ∷ 256 ∷ []
+abbrev pub bounds : List ℕ
+bounds = 256 ∷ 256 ∷ 65536 ∷ 4294967296 ∷ 65536 ∷ 256 ∷ 256 ∷ 256 ∷ []
 
 unfoldable pub allBelow : List ℕ → List ℕ → Bool
 allBelow [] f = true
 allBelow (w ∷ ws) f = ltb (getD f 0 0) w && allBelow ws (drop 1 f)
 
 unfoldable pub fitting : List ℕ → Bool
-fitting f = allBelow limits f
+fitting f = allBelow bounds f
 
--- the field of the number at place i: the number itself where it is below its limit
+-- the field of the number at place i: the number itself where it is below its bound
 abbrev pub fieldAt : List ℕ → ℕ → ℕ
-fieldAt f i = getD f i 0 % getD limits i 0
+fieldAt f i = getD f i 0 % getD bounds i 0
 
 -- the record of such numbers and a mapping
 unfoldable pub headFrom : List ℕ → Bytes → Head

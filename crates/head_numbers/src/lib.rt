@@ -24,10 +24,10 @@ pub fn numbers_of(h: Head) -> [u64; 8]
 pub fn numbers_fit(fields: &[u64; 8]) -> bool
     ensures { λ r. ⌜ r ≡ fitting (now (fields .entry)) ⌝ }
 {
-    let limits = [256u64, 256, 65536, 4294967296, 65536, 256, 256, 256];
+    let bounds = [256u64, 256, 65536, 4294967296, 65536, 256, 256, 256];
     let mut i = 0;
     while i < 8 {
-        if fields[i] >= limits[i] {
+        if fields[i] >= bounds[i] {
             return false;
         }
         i += 1;

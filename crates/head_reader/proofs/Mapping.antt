@@ -1,4 +1,4 @@
--- The mapping's 255 places: the used ones and the zeros behind them, and how many channels there are at
+-- The mapping's 255 places: the used ones and the zeros after them, and how many channels there are at
 -- most. Assumes nothing.
 use mathlib.Core.Path.{_≡_, refl, ap₂}
 use mathlib.Core.Bool.{Bool, true, false}
@@ -15,7 +15,7 @@ use Rattle.octets.proofs.Tests.{both, equal-and}
 use Rattle.head_reader.specs.Fields.{places}
 use Rattle.head_fields.specs.Right.{plainIndices, mostChannels, allowedChannels, allZero}
 
--- the used places and the zeros behind them
+-- the used places and the zeros after them
 
 zeros-pass : (n : ℕ) → allZero (replicate n 0) ≡ true
 unfolding allZero

@@ -12,36 +12,37 @@ use lib.ListN.{length, getD, take, drop, replicate, length-replicate, length-tak
 use lib.Seq.{take-all}
 use Rattle.octets.specs.Octets.{Bytes, begins, copied}
 use Rattle.octets.proofs.Copying.{copied-next}
-use Rattle.head_reader.specs.Fields.{signature, streamsOf, coupledOf, indicesOf, places}
-use Rattle.head_fields.specs.Right.{plainIndices, tableLength}
-use Rattle.head_reader.specs.Reading.{isHead}
+use Rattle.head_reader.specs.Fields.{streamsOf, coupledOf, indicesOf, places}
+use Rattle.head_fields.specs.Right.{plainIndices}
+use Rattle.head_fields.specs.Layout.{signature, versionPlace, channelsPlace, familyPlace, streamsPlace, coupledPlace, indicesPlace, startLength}
+use Rattle.head_reader.specs.Reading.{lengthOf, isHead}
 
 -- ---- by the family
 
 module _ (b : Bytes) where
-  module _ (table : eqb (getD b 18 0) 0 ≡ false) where
-    pub table-streams : streamsOf b ≡ getD b 19 0
+  module _ (table : eqb (getD b familyPlace 0) 0 ≡ false) where
+    pub table-streams : streamsOf b ≡ getD b streamsPlace 0
     unfolding streamsOf
     table-streams = rw table
 
-    pub table-coupled : coupledOf b ≡ getD b 20 0
+    pub table-coupled : coupledOf b ≡ getD b coupledPlace 0
     unfolding coupledOf
     table-coupled = rw table
 
-    pub table-indices : indicesOf b ≡ take (getD b 9 0) (drop 21 b)
+    pub table-indices : indicesOf b ≡ take (getD b channelsPlace 0) (drop indicesPlace b)
     unfolding indicesOf
     table-indices = rw table
 
-  module _ (plain : eqb (getD b 18 0) 0 ≡ true) where
+  module _ (plain : eqb (getD b familyPlace 0) 0 ≡ true) where
     pub plain-streams : streamsOf b ≡ 1
     unfolding streamsOf
     plain-streams = rw plain
 
-    pub plain-coupled : coupledOf b ≡ getD b 9 0 - 1
+    pub plain-coupled : coupledOf b ≡ getD b channelsPlace 0 - 1
     unfolding coupledOf
     plain-coupled = rw plain
 
-    pub plain-indices : indicesOf b ≡ take (getD b 9 0) plainIndices
+    pub plain-indices : indicesOf b ≡ take (getD b channelsPlace 0) plainIndices
     unfolding indicesOf
     plain-indices = rw plain
 
@@ -58,14 +59,14 @@ copied-front n s h =
     copied-next (replicate n 0) [] s (omega (arith, length-replicate {A = ℕ} n 0)) ∙ ap (λ (z : Bytes). s ++ z) (drop-replicate (length s) n 0)
 
 -- the indices of a table
-pub from-table : (b : Bytes) (n : ℕ) → n ≤ 255 → n ≡ getD b 9 0 → eqb (getD b 18 0) 0 ≡ false
-    → copied (replicate 255 0) 0 (take n (drop 21 b)) ≡ places (indicesOf b)
+pub from-table : (b : Bytes) (n : ℕ) → n ≤ 255 → n ≡ getD b channelsPlace 0 → eqb (getD b familyPlace 0) 0 ≡ false
+    → copied (replicate 255 0) 0 (take n (drop indicesPlace b)) ≡ places (indicesOf b)
 unfolding places
 from-table b n h e table =
-    rw (table-indices b table, ← e) (copied-front 255 (take n (drop 21 b)) (simp length-take (omega arith)))
+    rw (table-indices b table, ← e) (copied-front 255 (take n (drop indicesPlace b)) (simp length-take (omega arith)))
 
 -- those of family 0: from two channels on, and below
-pub from-two : (b : Bytes) (n : ℕ) → 1 < n → n ≡ getD b 9 0 → eqb (getD b 18 0) 0 ≡ true → 0 ∷ 1 ∷ replicate 253 0 ≡ places (indicesOf b)
+pub from-two : (b : Bytes) (n : ℕ) → 1 < n → n ≡ getD b channelsPlace 0 → eqb (getD b familyPlace 0) 0 ≡ true → 0 ∷ 1 ∷ replicate 253 0 ≡ places (indicesOf b)
 unfolding places
 from-two b n h e plain = rw (plain-indices b plain, ← e, take-all n plainIndices h)
 
@@ -75,7 +76,7 @@ below-two zero h = refl
 below-two (suc zero) h = refl
 below-two (suc (suc n)) h = absurd (omega arith)
 
-pub from-one : (b : Bytes) (n : ℕ) → n ≤ 1 → n ≡ getD b 9 0 → eqb (getD b 18 0) 0 ≡ true → replicate 255 0 ≡ places (indicesOf b)
+pub from-one : (b : Bytes) (n : ℕ) → n ≤ 1 → n ≡ getD b channelsPlace 0 → eqb (getD b familyPlace 0) 0 ≡ true → replicate 255 0 ≡ places (indicesOf b)
 from-one b n h e plain = rw (plain-indices b plain, ← e) (below-two n h)
 
 -- ---- the tests of a header
@@ -86,15 +87,15 @@ module _ (b : Bytes) where
   no-signature s = rw s
 
   module _ (s : begins signature b ≡ true) where
-    pub other-version : eqb (getD b 8 0) 1 ≡ false → isHead b ≡ false
+    pub other-version : eqb (getD b versionPlace 0) 1 ≡ false → isHead b ≡ false
     unfolding isHead
     other-version v = rw (s, v)
 
-    module _ (v : eqb (getD b 8 0) 1 ≡ true) where
-      pub short-head : length b < 19 → isHead b ≡ false
+    module _ (v : eqb (getD b versionPlace 0) 1 ≡ true) where
+      pub short-head : length b < startLength → isHead b ≡ false
       unfolding isHead
-      short-head h = rw (s, v, lt-leb 19 (length b) h)
+      short-head h = rw (s, v, lt-leb startLength (length b) h)
 
-      pub length-decides : 19 ≤ length b → isHead b ≡ eqb (length b) (19 + tableLength (getD b 18 0) (getD b 9 0))
+      pub length-decides : startLength ≤ length b → isHead b ≡ eqb (length b) (lengthOf b)
       unfolding isHead
-      length-decides h = rw (s, v, le-leb 19 (length b) h)
+      length-decides h = rw (s, v, le-leb startLength (length b) h)

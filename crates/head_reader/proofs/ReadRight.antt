@@ -14,9 +14,10 @@ use Rattle.refusal.proofs.Checks.{no-refusal, passed}
 use Rattle.refusal.specs.Checks.{firstOf}
 use Rattle.refusal.specs.Told.{gives}
 use Rattle.head_fields.specs.declared.Head.{Head}
-use Rattle.head_reader.specs.Fields.{signature, streamsOf, coupledOf, indicesOf, places, headOf}
-use Rattle.head_fields.specs.Right.{plainIndices, rightVersion, tableLength, allowedChannels, usedPlaces, rightStreams, rightIndices, rightPlain, rightMapping, rightHead}
-use Rattle.head_reader.specs.Reading.{isHead, readChecks, readHead}
+use Rattle.head_reader.specs.Fields.{streamsOf, coupledOf, indicesOf, places, headOf}
+use Rattle.head_fields.specs.Layout.{signature, versionPlace, channelsPlace, familyPlace, indicesPlace, startLength}
+use Rattle.head_fields.specs.Right.{plainIndices, rightVersion, allowedChannels, usedPlaces, rightStreams, rightIndices, rightPlain, rightMapping, rightHead}
+use Rattle.head_reader.specs.Reading.{lengthOf, isHead, readChecks, readHead}
 use Rattle.head_reader.specs.Statements.{ReadIsRight}
 use Rattle.head_reader.proofs.Mapping.{unused-zero, plain-length}
 
@@ -28,26 +29,26 @@ allowed h e =
 
 -- what the checks of a reader that gave a header have shown
 pub record Read (b : Bytes) (h : Head) : Type 0 where
-  pub signed : begins signature b ≡ true
-  pub version : getD b 8 0 ≡ 1
-  pub long : 19 ≤ length b
-  pub size : length b ≡ 19 + tableLength (getD b 18 0) (getD b 9 0)
+  pub starts : begins signature b ≡ true
+  pub version : getD b versionPlace 0 ≡ 1
+  pub long : startLength ≤ length b
+  pub size : length b ≡ lengthOf b
   pub mapping : rightMapping (headOf b) ≡ true
   pub given : headOf b ≡ h
 
 pub read : (b : Bytes) (h : Head) → readHead b ≡ gives h → Read b h
 unfolding readHead isHead
 read b h e =
-    let n : ℕ = 19 + tableLength (getD b 18 0) (getD b 9 0) in
+    let n : ℕ = lengthOf b in
     let r = no-refusal (firstOf (readChecks b)) (headOf b) h e in
     let p = passed _ _ _ (r .0) in
-    let a = both (begins signature b) (rightVersion (getD b 8 0) && (leb 19 (length b) && eqb (length b) n)) (not-false _ (p .0)) in
-    let v = equal-and (getD b 8 0) 1 (leb 19 (length b) && eqb (length b) n) (a .1) in
-    let l = both (leb 19 (length b)) (eqb (length b) n) (v .1) in
+    let a = both (begins signature b) (rightVersion (getD b versionPlace 0) && (leb startLength (length b) && eqb (length b) n)) (not-false _ (p .0)) in
+    let v = equal-and (getD b versionPlace 0) 1 (leb startLength (length b) && eqb (length b) n) (a .1) in
+    let l = both (leb startLength (length b)) (eqb (length b) n) (v .1) in
     record {
-      signed = a .0;
+      starts = a .0;
       version = v .0;
-      long = leb-true 19 (length b) (l .0);
+      long = leb-true startLength (length b) (l .0);
       size = eqb-true (length b) n (l .1);
       mapping = not-false _ (passed _ _ _ (p .1) .0);
       given = r .1;
@@ -55,29 +56,29 @@ read b h e =
 
 module _ (b : Bytes) (h : Head) (r : Read b h) where
   -- one index for each channel
-  indices-length : (t : Bool) → eqb (getD b 18 0) 0 ≡ t → length (indicesOf b) ≡ getD b 9 0
+  indices-length : (t : Bool) → eqb (getD b familyPlace 0) 0 ≡ t → length (indicesOf b) ≡ getD b channelsPlace 0
   unfolding indicesOf headOf
-  indices-length true e = rw e (plain-length (getD b 18 0) (getD b 9 0) (allowed (headOf b) (r .mapping)) e)
+  indices-length true e = rw e (plain-length (getD b familyPlace 0) (getD b channelsPlace 0) (allowed (headOf b) (r .mapping)) e)
   indices-length false e =
-      let size : length b ≡ 19 + (2 + getD b 9 0) = rw e at (r .size) in
-      rw e (length-take-le (getD b 9 0) (drop 21 b) (simp length-drop (omega arith)))
+      let size : length b ≡ startLength + (2 + getD b channelsPlace 0) = rw e at (r .size) in
+      rw e (length-take-le (getD b channelsPlace 0) (drop indicesPlace b) (simp length-drop (omega arith)))
 
-  pub indexed : length (indicesOf b) ≡ getD b 9 0
-  indexed = indices-length (eqb (getD b 18 0) 0) refl
+  pub indexed : length (indicesOf b) ≡ getD b channelsPlace 0
+  indexed = indices-length (eqb (getD b familyPlace 0) 0) refl
 
   -- what was read can be written
-  plain-right : (t : Bool) → eqb (getD b 18 0) 0 ≡ t → rightPlain (headOf b) ≡ true
+  plain-right : (t : Bool) → eqb (getD b familyPlace 0) 0 ≡ t → rightPlain (headOf b) ≡ true
   unfolding streamsOf coupledOf indicesOf places headOf rightPlain
   plain-right false e = rw e
   plain-right true e =
-      let l : Bytes = take (getD b 9 0) plainIndices in
-      rw (e, eq-eqb (getD b 9 0 - 1) (getD b 9 0 - 1) refl) (begins-append l (replicate (255 - length l) 0))
+      let l : Bytes = take (getD b channelsPlace 0) plainIndices in
+      rw (e, eq-eqb (getD b channelsPlace 0 - 1) (getD b channelsPlace 0 - 1) refl) (begins-append l (replicate (255 - length l) 0))
 
   right : rightHead (headOf b) ≡ true
   unfolding rightHead headOf
   right =
-      rw (eq-eqb (getD b 8 0) 1 (r .version), r .mapping, plain-right (eqb (getD b 18 0) 0) refl)
-      (unused-zero (getD b 9 0) (indicesOf b) indexed)
+      rw (eq-eqb (getD b versionPlace 0) 1 (r .version), r .mapping, plain-right (eqb (getD b familyPlace 0) 0) refl)
+      (unused-zero (getD b channelsPlace 0) (indicesOf b) indexed)
 
 pub read-is-right : ReadIsRight
 read-is-right b h o e = let r = read b h e in rw (r .given) at (right b h r)

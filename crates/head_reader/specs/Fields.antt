@@ -1,7 +1,7 @@
 -- The fields of an identification header by their places (RFC 7845, 5.1; document 01, "Identification header"). A place past
 -- the end of the bytes reads as zero. Assumes nothing.
 use Prim.Native.Nat.{ℕ, _-_}
-use mathlib.Core.List.{[], _∷_, _++_}
+use mathlib.Core.List.{_++_}
 use lib.ListN.{length, getD, take, drop, replicate}
 use mir.Syntax.{w16}
 use mir.Val.{toZ}
@@ -10,19 +10,17 @@ use Rattle.octets.specs.Octets.{Bytes}
 use Rattle.octets.specs.Numbers.{number}
 use Rattle.head_fields.specs.declared.Head.{Head}
 use Rattle.head_fields.specs.Right.{plainIndices, hasTable}
-
--- "OpusHead"
-abbrev pub signature : Bytes
-signature = 0x4f ∷ 0x70 ∷ 0x75 ∷ 0x73 ∷ 0x48 ∷ 0x65 ∷ 0x61 ∷ 0x64 ∷ []
+use Rattle.head_fields.specs.Layout.{versionPlace, channelsPlace, preskipPlace, ratePlace, gainPlace, familyPlace}
+use Rattle.head_fields.specs.Layout.{streamsPlace, coupledPlace, indicesPlace}
 
 unfoldable pub streamsOf : Bytes → ℕ
-streamsOf b = pick (hasTable (getD b 18 0)) (getD b 19 0) 1
+streamsOf b = pick (hasTable (getD b familyPlace 0)) (getD b streamsPlace 0) 1
 
 unfoldable pub coupledOf : Bytes → ℕ
-coupledOf b = pick (hasTable (getD b 18 0)) (getD b 20 0) (getD b 9 0 - 1)
+coupledOf b = pick (hasTable (getD b familyPlace 0)) (getD b coupledPlace 0) (getD b channelsPlace 0 - 1)
 
 unfoldable pub indicesOf : Bytes → Bytes
-indicesOf b = take (getD b 9 0) (pick (hasTable (getD b 18 0)) (drop 21 b) plainIndices)
+indicesOf b = take (getD b channelsPlace 0) (pick (hasTable (getD b familyPlace 0)) (drop indicesPlace b) plainIndices)
 
 -- the 255 places of the mapping, unused ones zero
 unfoldable pub places : Bytes → Bytes
@@ -31,12 +29,12 @@ places s = s ++ replicate (255 - length s) 0
 -- the gain is signed, in two's complement of 16 bits
 unfoldable pub headOf : Bytes → Head
 headOf b = record {
-  version = getD b 8 0;
-  channels = getD b 9 0;
-  preskip = number 2 b 10;
-  rate = number 4 b 12;
-  gain = toZ w16 (number 2 b 16);
-  family = getD b 18 0;
+  version = getD b versionPlace 0;
+  channels = getD b channelsPlace 0;
+  preskip = number 2 b preskipPlace;
+  rate = number 4 b ratePlace;
+  gain = toZ w16 (number 2 b gainPlace);
+  family = getD b familyPlace 0;
   streams = streamsOf b;
   coupled = coupledOf b;
   mapping = places (indicesOf b);

@@ -1,6 +1,6 @@
--- Reading an identification header (document 01, refusals 12 and 13). 12 comes before 13, with the family byte as it stands.
+-- Reading an identification header (document 01, refusals 12 and 13). 12 comes before 13, with the family byte as it is.
 -- Assumes nothing.
-use Prim.Native.Nat.{_+_}
+use Prim.Native.Nat.{ℕ}
 use mathlib.Core.Path.{_≡_}
 use mathlib.Core.Bool.{Bool, not, _&&_}
 use mathlib.Core.List.{List, [], _∷_}
@@ -8,6 +8,7 @@ use lib.Dec.{leb, eqb}
 use lib.IntN.{pos}
 use lib.ListN.{length, getD, replicate}
 use Rattle.octets.specs.Octets.{Bytes, begins}
+use Rattle.refusal.specs.declared.Refusal.{Refusal}
 use Rattle.refusal.specs.declared.Refusal.the-variants.{BadHead, BadMapping}
 use Rattle.refusal.specs.Checks.{Check, _when_, firstOf}
 use Rattle.refusal.specs.Told.{Told, gives, refuses, decided}
@@ -16,14 +17,19 @@ use Rattle.head_fields.specs.declared.Head.{Head}
 use Rattle.head_reader.specs.declared.Verdict.{Verdict}
 use Rattle.head_reader.specs.declared.Verdict.the-variants.{Right, Refused}
 use Rattle.head_reader.specs.declared.HeadRead.{HeadRead}
-use Rattle.head_reader.specs.Fields.{signature, headOf}
-use Rattle.head_fields.specs.Right.{rightVersion, tableLength, rightMapping}
+use Rattle.head_reader.specs.Fields.{headOf}
+use Rattle.head_fields.specs.Right.{rightVersion, rightMapping}
+use Rattle.head_fields.specs.Layout.{signature, versionPlace, channelsPlace, familyPlace, startLength, headLength}
+
+-- how long a header with this family and these channels is
+abbrev pub lengthOf : Bytes → ℕ
+lengthOf b = headLength (getD b familyPlace 0) (getD b channelsPlace 0)
 
 -- signature, version and length are right
 unfoldable pub isHead : Bytes → Bool
 isHead b =
     begins signature b
-    && (rightVersion (getD b 8 0) && (leb 19 (length b) && eqb (length b) (19 + tableLength (getD b 18 0) (getD b 9 0))))
+    && (rightVersion (getD b versionPlace 0) && (leb startLength (length b) && eqb (length b) (lengthOf b)))
 
 abbrev pub readChecks : Bytes → List Check
 readChecks b = BadHead when not (isHead b) ∷ BadMapping when not (rightMapping (headOf b)) ∷ []
@@ -53,6 +59,11 @@ toldBy (Refused r) h = refuses (numberOf r)
 abbrev pub headIn : Told Head → Head
 headIn (gives h) = h
 headIn (refuses n) = noHead
+
+-- the code's answer where a check refuses
+pub record WasRefused (why : Refusal) (r : HeadRead) : Type 0 where
+  pub head : r .head ≡ noHead
+  pub verdict : r .verdict ≡ Refused why
 
 pub record HeadIs (b : Bytes) (r : HeadRead) : Type 0 where
   pub told : toldBy (r .verdict) (r .head) ≡ readHead b

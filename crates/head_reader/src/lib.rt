@@ -1,8 +1,12 @@
 // Reading the identification header of an Ogg Opus stream (RFC 7845, 5.1).
 ghost use mathlib.Core.Path.{_≡_};
 ghost use Rattle.head_reader.specs.Fields.{streamsOf, coupledOf, indicesOf, places, headOf};
-ghost use Rattle.head_reader.specs.Reading.{isHead, noHead, HeadIs};
+ghost use Rattle.head_reader.specs.Reading.{isHead, WasRefused, HeadIs};
 use head_fields::Head;
+use head_fields::SIGNATURE;
+use head_fields::START_LENGTH;
+use head_fields::VERSION;
+use head_fields::place;
 use refusal::Refusal;
 
 pub enum Verdict {
@@ -10,7 +14,7 @@ pub enum Verdict {
     Refused(Refusal),
 }
 
-// The record holds an array, so it stands beside the verdict. Under a refusal it is all zeros.
+// The record holds an array, so it is beside the verdict. Under a refusal it is all zeros.
 pub struct HeadRead {
     pub verdict: Verdict,
     pub head: Head,
@@ -21,10 +25,14 @@ fn mapping_of(b: &[u8]) -> [u8; 255]
     ensures { λ r. ⌜ r ≡ places (indicesOf (now (b .entry))) ⌝ }
 {
     let mut mapping = [0u8; 255];
-    let channels = octets::wide(octets::byte_at(b, 9));
-    let family = octets::byte_at(b, 18);
+    let channels = octets::wide(octets::byte_at(b, place::CHANNELS));
+    let family = octets::byte_at(b, place::FAMILY);
     if family != 0 {
-        octets::copy_at(&mut mapping, 0, octets::part_of(b, 21, channels));
+        octets::copy_at(
+            &mut mapping,
+            0,
+            octets::part_of(b, place::INDICES, channels),
+        );
         return mapping;
     }
     if channels > 1 {
@@ -36,8 +44,8 @@ fn mapping_of(b: &[u8]) -> [u8; 255]
 fn streams_of(b: &[u8]) -> u8
     ensures { λ r. ⌜ r ≡ streamsOf (now (b .entry)) ⌝ }
 {
-    if octets::byte_at(b, 18) != 0 {
-        return octets::byte_at(b, 19);
+    if octets::byte_at(b, place::FAMILY) != 0 {
+        return octets::byte_at(b, place::STREAMS);
     }
     1
 }
@@ -45,10 +53,10 @@ fn streams_of(b: &[u8]) -> u8
 fn coupled_of(b: &[u8]) -> u8
     ensures { λ r. ⌜ r ≡ coupledOf (now (b .entry)) ⌝ }
 {
-    if octets::byte_at(b, 18) != 0 {
-        return octets::byte_at(b, 20);
+    if octets::byte_at(b, place::FAMILY) != 0 {
+        return octets::byte_at(b, place::COUPLED);
     }
-    let channels = octets::byte_at(b, 9);
+    let channels = octets::byte_at(b, place::CHANNELS);
     if channels == 0 {
         return 0;
     }
@@ -58,15 +66,15 @@ fn coupled_of(b: &[u8]) -> u8
 fn head_of(b: &[u8]) -> Head
     ensures { λ r. ⌜ r ≡ headOf (now (b .entry)) ⌝ }
 {
-    let gain = number_signed::signed16(number_reader::number16(b, 16));
+    let gain = number_signed::signed16(number_reader::number16(b, place::GAIN));
     let mapping = mapping_of(b);
     Head {
-        version: octets::byte_at(b, 8),
-        channels: octets::byte_at(b, 9),
-        preskip: number_reader::number16(b, 10),
-        rate: number_reader::number32(b, 12),
+        version: octets::byte_at(b, place::VERSION),
+        channels: octets::byte_at(b, place::CHANNELS),
+        preskip: number_reader::number16(b, place::PRESKIP),
+        rate: number_reader::number32(b, place::RATE),
         gain,
-        family: octets::byte_at(b, 18),
+        family: octets::byte_at(b, place::FAMILY),
         streams: streams_of(b),
         coupled: coupled_of(b),
         mapping,
@@ -77,20 +85,22 @@ fn head_of(b: &[u8]) -> Head
 fn is_head(b: &[u8]) -> bool
     ensures { λ r. ⌜ r ≡ isHead (now (b .entry)) ⌝ }
 {
-    if !octets::begins_with(b, b"OpusHead") {
+    if !octets::begins_with(b, &SIGNATURE) {
         return false;
     }
-    if octets::byte_at(b, 8) != 1 {
+    if octets::byte_at(b, place::VERSION) != VERSION {
         return false;
     }
-    if b.len() < 19 {
+    if b.len() < START_LENGTH {
         return false;
     }
-    b.len() == 19 + head_fields::table_length(octets::byte_at(b, 18), octets::byte_at(b, 9))
+    let family = octets::byte_at(b, place::FAMILY);
+    let channels = octets::byte_at(b, place::CHANNELS);
+    b.len() == head_fields::head_length(family, channels)
 }
 
 fn refused(why: Refusal) -> HeadRead
-    ensures { λ r. ⌜ (r .head ≡ noHead) × (r .verdict ≡ Verdict.Refused why) ⌝ }
+    ensures { λ r. ⌜ WasRefused why r ⌝ }
 {
     let mapping = [0u8; 255];
     let head = Head {

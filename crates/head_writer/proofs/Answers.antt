@@ -2,7 +2,7 @@
 use mathlib.Core.Path.{_≡_}
 use mathlib.Core.Bool.{true, false}
 use mathlib.Core.Option.{none, some}
-use Prim.Native.Nat.{ℕ, _+_, _≤_, _<_}
+use Prim.Native.Nat.{ℕ, _≤_, _<_}
 use borrow.Author.Tests.{lt-ltb, le-ltb}
 use lib.ListN.{length}
 use Rattle.octets.specs.Octets.{Bytes, copied}
@@ -10,7 +10,7 @@ use Rattle.refusal.specs.declared.Refusal.{Refusal}
 use Rattle.refusal.specs.declared.Refusal.the-variants.{ShortOutput, UnfitFields}
 use Rattle.refusal.specs.Checks.{firstOf}
 use Rattle.head_fields.specs.declared.Head.{Head}
-use Rattle.head_fields.specs.Right.{tableLength, rightHead}
+use Rattle.head_fields.specs.Right.{rightHead}
 use Rattle.head_writer.specs.declared.HeadWritten.the-variants.{Bytes as Written, Refused as NotWritten}
 use Rattle.head_writer.specs.Writing.{headBytes, headSize, writeChecks, writeTold, writeOut, Wrote}
 
@@ -19,13 +19,13 @@ module _ (h : Head) (out : Bytes) where
   unfolding firstOf
   unfit e = rw e
 
-  -- m is the table's length, as a call gave it
-  pub short-output : {m : ℕ} → m ≡ tableLength (h .family) (h .channels) → rightHead h ≡ true → length out < 19 + m
+  -- n is the header's length, as a call gave it
+  pub short-output : {n : ℕ} → n ≡ headSize h → rightHead h ≡ true → length out < n
       → firstOf (writeChecks h (length out)) ≡ some ShortOutput
   unfolding firstOf
   short-output t e l = rw (e, lt-ltb (length out) (headSize h) (rw t at l))
 
-  pub writable : {m : ℕ} → m ≡ tableLength (h .family) (h .channels) → rightHead h ≡ true → 19 + m ≤ length out
+  pub writable : {n : ℕ} → n ≡ headSize h → rightHead h ≡ true → n ≤ length out
       → firstOf (writeChecks h (length out)) ≡ none
   unfolding firstOf
   writable t e l = rw (e, le-ltb (length out) (headSize h) (rw t at l))
@@ -34,7 +34,7 @@ module _ (h : Head) (out : Bytes) where
   unfolding writeTold writeOut
   not-written why e = record { told = rw e; output = rw e }
 
-  pub wrote : {m : ℕ} {end : Bytes} → m ≡ tableLength (h .family) (h .channels) → end ≡ copied out 0 (headBytes h)
-      → firstOf (writeChecks h (length out)) ≡ none → Wrote h out (Written (19 + m)) end
+  pub wrote : {n : ℕ} {end : Bytes} → n ≡ headSize h → end ≡ copied out 0 (headBytes h)
+      → firstOf (writeChecks h (length out)) ≡ none → Wrote h out (Written n) end
   unfolding writeTold writeOut
   wrote t o e = rw (t, o) (record { told = rw e; output = rw e })

@@ -1,4 +1,4 @@
--- The bytes of a written header: how long they are, and where each field stands. Assumes nothing.
+-- The bytes of a written header: how long they are, and where each field is. Assumes nothing.
 use mathlib.Core.Path.{_≡_, refl, _∙_, ap}
 use mathlib.Core.Bool.{Bool, true, false}
 use mathlib.Core.List.{[], _∷_}
@@ -17,10 +17,11 @@ use Rattle.octets.specs.Numbers.{octets, number}
 use Rattle.octets.specs.Pick.{pick}
 use Rattle.octets.proofs.Numbers.{value-octets}
 use Rattle.head_fields.specs.declared.Head.{Head}
-use Rattle.head_reader.specs.Fields.{signature, streamsOf, coupledOf, indicesOf, places, headOf}
+use Rattle.head_fields.specs.Widths.{WideFields}
+use Rattle.head_fields.specs.Layout.{signature, versionPlace, channelsPlace, familyPlace}
+use Rattle.head_reader.specs.Fields.{streamsOf, coupledOf, indicesOf, places, headOf}
 use Rattle.head_fields.specs.Right.{plainIndices, usedPlaces}
 use Rattle.head_writer.specs.Writing.{startOf, headBytes, headSize}
-use Rattle.head_writer.specs.Statements.{Fit}
 
 -- ---- how long a header is
 
@@ -33,7 +34,7 @@ pub head-length : (h : Head) → h .channels ≤ length (h .mapping) → length 
 unfolding startOf octets headBytes
 head-length h less = omega (arith, table-length h (eqb (h .family) 0) less)
 
--- ---- where its fields stand
+-- ---- where its fields are
 
 -- a header by the fields that take some work
 same : (h : Head) {p r s c : ℕ} {g : ℤ} {m : Bytes} → p ≡ h .preskip → r ≡ h .rate → g ≡ h .gain → s ≡ h .streams → c ≡ h .coupled → m ≡ h .mapping
@@ -47,20 +48,20 @@ module _ (h : Head) where
   unfolding startOf octets headBytes begins
   head-signature = refl
 
-  pub head-version : getD (headBytes h) 8 0 ≡ h .version
+  pub head-version : getD (headBytes h) versionPlace 0 ≡ h .version
   unfolding startOf octets headBytes
   head-version = refl
 
-  pub head-channels : getD (headBytes h) 9 0 ≡ h .channels
+  pub head-channels : getD (headBytes h) channelsPlace 0 ≡ h .channels
   unfolding startOf octets headBytes
   head-channels = refl
 
-  pub head-family : getD (headBytes h) 18 0 ≡ h .family
+  pub head-family : getD (headBytes h) familyPlace 0 ≡ h .family
   unfolding startOf octets headBytes
   head-family = refl
 
-  module _ (f : Fit h) where
-    -- all of them, where those behind the family are right
+  module _ (f : WideFields h) where
+    -- all of them, where those after the family are right
     all-fields : streamsOf (headBytes h) ≡ h .streams → coupledOf (headBytes h) ≡ h .coupled → places (indicesOf (headBytes h)) ≡ h .mapping
         → headOf (headBytes h) ≡ h
     unfolding startOf octets headBytes number headOf

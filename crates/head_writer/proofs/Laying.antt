@@ -13,11 +13,12 @@ use Rattle.octets.specs.Numbers.{octets}
 use Rattle.octets.proofs.Copying.{copied-next}
 use Rattle.head_fields.specs.declared.Head.{Head}
 use Rattle.head_fields.specs.Right.{usedPlaces}
+use Rattle.head_fields.specs.Layout.{streamsPlace, coupledPlace, indicesPlace, startLength}
 use Rattle.head_writer.specs.Writing.{startOf, headBytes, headSize}
 
--- a copy right behind one at the front
-copied-behind : (d s t : Bytes) (n : ℕ) → length s ≡ n → n + length t ≤ length d → copied (copied d 0 s) n t ≡ copied d 0 (s ++ t)
-copied-behind d s t n e room =
+-- a copy right after one at the front
+copied-after : (d s t : Bytes) (n : ℕ) → length s ≡ n → n + length t ≤ length d → copied (copied d 0 s) n t ≡ copied d 0 (s ++ t)
+copied-after d s t n e room =
     let front = copied-next d [] s (omega arith) in
     let both = copied-next d s t (omega arith) in
     let whole = copied-next d [] (s ++ t) (omega (arith, length-append s t)) in
@@ -29,7 +30,7 @@ one-octet x h =
     let small : x % 256 ≡ x = omega arith in
     ap (λ (y : ℕ). y ∷ []) small
 
-length-start : (h : Head) → length (startOf h) ≡ 19
+length-start : (h : Head) → length (startOf h) ≡ startLength
 unfolding startOf octets
 length-start h = refl
 
@@ -43,29 +44,29 @@ module _ (h : Head) where
   table-bytes e = rw e
 
 -- the start, two counts and the indices
-four : (s m out : Bytes) (x y : ℕ) → length s ≡ 19 → 21 + length m ≤ length out
-    → copied (copied (copied (copied out 0 s) 19 (x ∷ [])) 20 (y ∷ [])) 21 m ≡ copied out 0 (s ++ x ∷ y ∷ m)
+four : (s m out : Bytes) (x y : ℕ) → length s ≡ startLength → indicesPlace + length m ≤ length out
+    → copied (copied (copied (copied out 0 s) streamsPlace (x ∷ [])) coupledPlace (y ∷ [])) indicesPlace m ≡ copied out 0 (s ++ x ∷ y ∷ m)
 four s m out x y e room =
-    let one : length (s ++ (x ∷ [])) ≡ 20 = rw length-append (omega arith) in
-    let two : length (s ++ (x ∷ []) ++ (y ∷ [])) ≡ 21 = rw length-append (omega arith) in
+    let one : length (s ++ (x ∷ [])) ≡ coupledPlace = rw length-append (omega arith) in
+    let two : length (s ++ (x ∷ []) ++ (y ∷ [])) ≡ indicesPlace = rw length-append (omega arith) in
     rw (
-      copied-behind out s (x ∷ []) 19 e (omega arith),
-      copied-behind out (s ++ (x ∷ [])) (y ∷ []) 20 one (omega arith),
-      copied-behind out (s ++ (x ∷ []) ++ (y ∷ [])) m 21 two (omega arith),
+      copied-after out s (x ∷ []) streamsPlace e (omega arith),
+      copied-after out (s ++ (x ∷ [])) (y ∷ []) coupledPlace one (omega arith),
+      copied-after out (s ++ (x ∷ []) ++ (y ∷ [])) m indicesPlace two (omega arith),
     ) (simp append-assoc)
 
 -- the output without a table
 pub put-plain : (h : Head) (out s a : Bytes) → h .family ≡ 0 → s ≡ startOf h → a ≡ copied out 0 s → a ≡ copied out 0 (headBytes h)
 put-plain h out s a plain hs ha = ha ∙ ap (copied out 0) (hs ∙ sym (plain-bytes h (eq-eqb (h .family) 0 plain)))
 
--- the output with one: a, d, e and f are what stands there after each copy
+-- the output with one: a, d, e and f are the output after each copy
 pub put-table : (h : Head) (out s a d e f : Bytes) (n : ℕ) → (h .family ≡ 0 → ⊥) → headSize h ≤ length out → h .streams < 256
     → h .coupled < 256 → n ≡ h .channels → n ≤ length (h .mapping) → s ≡ startOf h → a ≡ copied out 0 s
-    → d ≡ copied a 19 (octets 1 (h .streams)) → e ≡ copied d 20 (octets 1 (h .coupled)) → f ≡ copied e 21 (take n (h .mapping))
+    → d ≡ copied a streamsPlace (octets 1 (h .streams)) → e ≡ copied d coupledPlace (octets 1 (h .coupled)) → f ≡ copied e indicesPlace (take n (h .mapping))
     → f ≡ copied out 0 (headBytes h)
 put-table h out s a d e f n kind room hx hy hn hm hs ha hd he hf =
     let table : eqb (h .family) 0 ≡ false = ne-eqb (h .family) 0 kind in
-    let size : 19 + (2 + h .channels) ≤ length out = rw table at room in
+    let size : startLength + (2 + h .channels) ≤ length out = rw table at room in
     let m : Bytes = take n (h .mapping) in
     let used : length m ≡ n = length-take-le n (h .mapping) hm in
     hf

@@ -22,13 +22,16 @@ use Rattle.refusal.proofs.Checks.{no-refusal, passed}
 use Rattle.refusal.specs.Checks.{firstOf}
 use Rattle.refusal.specs.Told.{gives}
 use Rattle.head_fields.specs.declared.Head.{Head}
-use Rattle.head_reader.specs.Fields.{signature, streamsOf, coupledOf, indicesOf, places, headOf}
+use Rattle.head_fields.specs.Widths.{WideFields}
+use Rattle.head_fields.specs.Layout.{signature, versionPlace, channelsPlace, preskipPlace, ratePlace, gainPlace, familyPlace}
+use Rattle.head_fields.specs.Layout.{streamsPlace, coupledPlace, indicesPlace, startLength}
+use Rattle.head_reader.specs.Fields.{streamsOf, coupledOf, indicesOf, places, headOf}
 use Rattle.head_fields.specs.Right.{plainIndices, hasTable, unusedPlaces, usedPlaces, allZero, rightPlain, rightMapping, rightHead}
 use Rattle.head_reader.specs.Reading.{isHead, readHead}
 use Rattle.head_reader.proofs.Mapping.{used-places, places-used, channels-most, plain-length}
 use Rattle.head_reader.proofs.ReadRight.{Read, allowed, read, indexed, read-is-right}
 use Rattle.head_writer.specs.Writing.{startOf, headBytes, headSize, writeChecks, writeTold, writeOut}
-use Rattle.head_writer.specs.Statements.{Fit, ReadsBack, WritesBack}
+use Rattle.head_writer.specs.Statements.{ReadsBack, WritesBack}
 use Rattle.head_writer.proofs.Answers.{writable}
 use Rattle.head_writer.proofs.HeaderBytes.{head-length, head-signature, head-version, head-channels, head-family, plain-head, table-head}
 
@@ -49,12 +52,12 @@ sound h e =
     let c = both (rightPlain h) (allZero (unusedPlaces h)) (b .1) in
     record { version = a .0; mapping = b .0; plain = c .0; zeros = c .1 }
 
-module _ (h : Head) (f : Fit h) (s : Sound h) where
+module _ (h : Head) (f : WideFields h) (long : length (h .mapping) ≡ 255) (s : Sound h) where
   few : h .channels ≤ 255
   few = channels-most (h .family) (h .channels) (allowed h (s .mapping))
 
   mapped : places (usedPlaces h) ≡ h .mapping
-  mapped = places-used (h .channels) (h .mapping) (f .places) few (s .zeros)
+  mapped = places-used (h .channels) (h .mapping) long few (s .zeros)
 
   whole : length (headBytes h) ≡ headSize h
   whole = head-length h (omega (arith, few))
@@ -69,7 +72,7 @@ module _ (h : Head) (f : Fit h) (s : Sound h) where
         head-family h,
         whole,
         eq-eqb (h .version) 1 (s .version),
-        le-leb 19 (headSize h) (omega arith),
+        le-leb startLength (headSize h) (omega arith),
         eq-eqb (headSize h) (headSize h) refl,
       )
 
@@ -90,13 +93,13 @@ module _ (h : Head) (f : Fit h) (s : Sound h) where
 
 pub reads-back : ReadsBack
 unfolding writeTold writeOut
-reads-back h out f e =
+reads-back h out f long e =
     let clear = no-refusal (firstOf (writeChecks h (length out))) (headSize h) (headSize h) e .0 in
     let p = passed _ _ _ clear in
     let s = sound h (not-false _ (p .0)) in
     let room : headSize h ≤ length out = ltb-false _ _ (passed _ _ _ (p .1) .0) in
-    let n : length (headBytes h) ≡ headSize h = whole h f s in
-    rw (clear, copied-fits out 0 (headBytes h) (omega arith), ← n, take-length, take-append-seam) (same-read h f s)
+    let n : length (headBytes h) ≡ headSize h = whole h f long s in
+    rw (clear, copied-fits out 0 (headBytes h) (omega arith), ← n, take-length, take-append-seam) (same-read h f long s)
 
 -- ---- writing what was read
 
@@ -104,32 +107,32 @@ signed-field : (at : ℕ) (b : Bytes) → Octets b → at + 2 ≤ length b → o
 signed-field at b o h = rw (ofZ-toZ {w = w16} (record { fits = field-fits 2 at b o h })) (field 2 at b o h)
 
 module _ (b : Bytes) (h : Head) (r : Read b h) where
-  -- the table stands at the end
-  ended : (t : Bool) → eqb (getD b 18 0) 0 ≡ t
-      → pick (hasTable (getD b 18 0)) (streamsOf b ∷ coupledOf b ∷ usedPlaces (headOf b)) [] ≡ drop 19 b
+  -- the table is at the end
+  ended : (t : Bool) → eqb (getD b familyPlace 0) 0 ≡ t
+      → pick (hasTable (getD b familyPlace 0)) (streamsOf b ∷ coupledOf b ∷ usedPlaces (headOf b)) [] ≡ drop startLength b
   unfolding streamsOf coupledOf indicesOf headOf
   ended true e =
-      let size : length b ≡ 19 = rw e at (r .size) in
-      rw e (sym (drop-of-length-le b {i = 19} (omega arith)))
+      let size : length b ≡ startLength = rw e at (r .size) in
+      rw e (sym (drop-of-length-le b {i = startLength} (omega arith)))
   ended false e =
-      let size : length b ≡ 19 + (2 + getD b 9 0) = rw e at (r .size) in
-      let used : usedPlaces (headOf b) ≡ indicesOf b = used-places (getD b 9 0) (indicesOf b) (indexed b h r) in
-      let all : take (getD b 9 0) (drop 21 b) ≡ drop 21 b = take-all (getD b 9 0) (drop 21 b) (simp length-drop (omega arith)) in
-      rw (used, e, all, byte 20 (getD b 20 0) b refl (omega arith), byte 19 (getD b 19 0) b refl (omega arith))
+      let size : length b ≡ startLength + (2 + getD b channelsPlace 0) = rw e at (r .size) in
+      let used : usedPlaces (headOf b) ≡ indicesOf b = used-places (getD b channelsPlace 0) (indicesOf b) (indexed b h r) in
+      let all : take (getD b channelsPlace 0) (drop indicesPlace b) ≡ drop indicesPlace b = take-all (getD b channelsPlace 0) (drop indicesPlace b) (simp length-drop (omega arith)) in
+      rw (used, e, all, byte coupledPlace (getD b coupledPlace 0) b refl (omega arith), byte streamsPlace (getD b streamsPlace 0) b refl (omega arith))
 
   rebuilt : Octets b → headBytes (headOf b) ≡ b
   unfolding headBytes startOf headOf
   rebuilt o =
-      let start : take 8 b ≡ signature = begins-take signature b (r .signed) in
+      let start : take 8 b ≡ signature = begins-take signature b (r .starts) in
       simp append-assoc
       (rw (
-        ended (eqb (getD b 18 0) 0) refl,
-        byte 18 (getD b 18 0) b refl (omega arith),
-        signed-field 16 b o (omega arith),
-        field 4 12 b o (omega arith),
-        field 2 10 b o (omega arith),
-        byte 9 (getD b 9 0) b refl (omega arith),
-        byte 8 (getD b 8 0) b refl (omega arith),
+        ended (eqb (getD b familyPlace 0) 0) refl,
+        byte familyPlace (getD b familyPlace 0) b refl (omega arith),
+        signed-field gainPlace b o (omega arith),
+        field 4 ratePlace b o (omega arith),
+        field 2 preskipPlace b o (omega arith),
+        byte channelsPlace (getD b channelsPlace 0) b refl (omega arith),
+        byte versionPlace (getD b versionPlace 0) b refl (omega arith),
       ) (rw start at (take-append-drop 8 b)))
 
 pub writes-back : WritesBack
@@ -139,4 +142,4 @@ writes-back b out h o e one room =
     let same : headBytes h ≡ b = rw (r .given) at (rebuilt b h r o) in
     let size : length b ≡ headSize h = r .size ∙ ap headSize (r .given) in
     let clear = writable h out refl (read-is-right b h o e) (omega arith) in
-    (rw clear (ap gives (sym size)), rw (clear, same))
+    record { told = rw clear (ap gives (sym size)); output = rw (clear, same) }

@@ -1,5 +1,5 @@
 -- Writing an identification header (document 01, refusals 23 and 22; RFC 7845, 5.1). Assumes nothing.
-use Prim.Native.Nat.{ℕ, _+_}
+use Prim.Native.Nat.{ℕ}
 use mathlib.Core.Path.{_≡_}
 use mathlib.Core.Bool.{not}
 use mathlib.Core.List.{List, [], _∷_, _++_}
@@ -19,20 +19,21 @@ use Rattle.refusal.specs.Numbers.{numberOf}
 use Rattle.head_fields.specs.declared.Head.{Head}
 use Rattle.head_writer.specs.declared.HeadWritten.{HeadWritten}
 use Rattle.head_writer.specs.declared.HeadWritten.the-variants.{Bytes as Written, Refused}
-use Rattle.head_reader.specs.Fields.{signature}
-use Rattle.head_fields.specs.Right.{hasTable, tableLength, usedPlaces, rightHead}
+use Rattle.head_fields.specs.Right.{hasTable, usedPlaces, rightHead}
+use Rattle.head_fields.specs.Layout.{signature, headLength}
 
--- the 19 bytes before the table
+-- the bytes before the table
 unfoldable pub startOf : Head → Bytes
 startOf h =
-    signature ++ (h .version ∷ h .channels ∷ []) ++ octets 2 (h .preskip) ++ octets 4 (h .rate) ++ octets 2 (ofZ w16 (h .gain)) ++ (h .family ∷ [])
+    signature ++ (h .version ∷ h .channels ∷ []) ++ octets 2 (h .preskip) ++ octets 4 (h .rate)
+    ++ octets 2 (ofZ w16 (h .gain)) ++ (h .family ∷ [])
 
 -- the bytes of a header
 unfoldable pub headBytes : Head → Bytes
 headBytes h = startOf h ++ pick (hasTable (h .family)) (h .streams ∷ h .coupled ∷ usedPlaces h) []
 
 abbrev pub headSize : Head → ℕ
-headSize h = 19 + tableLength (h .family) (h .channels)
+headSize h = headLength (h .family) (h .channels)
 
 abbrev pub writeChecks : Head → ℕ → List Check
 writeChecks h n = UnfitFields when not (rightHead h) ∷ ShortOutput when ltb n (headSize h) ∷ []

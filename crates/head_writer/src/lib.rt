@@ -5,6 +5,9 @@ ghost use lib.ListN.{length};
 ghost use Rattle.octets.specs.Octets.{copied};
 ghost use Rattle.head_writer.specs.Writing.{startOf, headBytes, headSize, Wrote};
 use head_fields::Head;
+use head_fields::SIGNATURE;
+use head_fields::START_LENGTH;
+use head_fields::place;
 use refusal::Refusal;
 
 pub enum HeadWritten {
@@ -12,23 +15,24 @@ pub enum HeadWritten {
     Refused(Refusal),
 }
 
-// The 19 bytes before the table.
-fn start_of(h: Head) -> [u8; 19]
+// The bytes before the table.
+fn start_of(h: Head) -> [u8; START_LENGTH]
     ensures { λ r. ⌜ r ≡ startOf h ⌝ }
 {
     let gain = h.gain;
+    let s = SIGNATURE;
     let p = number_writer::octets64(h.preskip as u64);
     let r = number_writer::octets64(h.rate as u64);
     let g = number_writer::octets64(number_signed::unsigned16(gain) as u64);
     [
-        0x4f,
-        0x70,
-        0x75,
-        0x73,
-        0x48,
-        0x65,
-        0x61,
-        0x64,
+        s[0],
+        s[1],
+        s[2],
+        s[3],
+        s[4],
+        s[5],
+        s[6],
+        s[7],
         h.version,
         h.channels,
         p[0],
@@ -53,9 +57,9 @@ fn put_head(h: Head, out: &mut [u8])
     if h.family != 0 {
         let mapping = h.mapping;
         let channels = octets::wide(h.channels);
-        number_writer::put8(out, 19, h.streams);
-        number_writer::put8(out, 20, h.coupled);
-        octets::copy_at(out, 21, &mapping[..channels]);
+        number_writer::put8(out, place::STREAMS, h.streams);
+        number_writer::put8(out, place::COUPLED, h.coupled);
+        octets::copy_at(out, place::INDICES, &mapping[..channels]);
     }
 }
 
@@ -67,7 +71,7 @@ pub fn write_head(h: Head, out: &mut [u8]) -> HeadWritten
     if !head_fields::right_head(h) {
         return HeadWritten::Refused(Refusal::UnfitFields);
     }
-    let size = 19 + head_fields::table_length(h.family, h.channels);
+    let size = head_fields::head_length(h.family, h.channels);
     if out.len() < size {
         return HeadWritten::Refused(Refusal::ShortOutput);
     }

@@ -3,6 +3,7 @@
 // function has to know what another left.
 use feed_pages::Stop;
 use feed_pages::Sums;
+use limits::PACKET_MAX;
 use reader::Reader;
 use refusal::Refusal;
 
@@ -110,12 +111,12 @@ fn feed_more(
     buffer: &[u8],
     carry: &mut [u8],
     ends: &mut [u64],
-    sizes: &mut [u64],
+    lengths: &mut [u64],
     kept: &mut [u64],
 ) -> Listing {
     let to = octets::least(w.to, buffer.len());
     let from = octets::least(w.from, to);
-    let fed = feed_pages::feed_pages(w.reader, &buffer[from..to], carry, ends, sizes, kept);
+    let fed = feed_pages::feed_pages(w.reader, &buffer[from..to], carry, ends, lengths, kept);
     let p = fed.progress;
     let stop = fed.stop;
     let reader = p.reader;
@@ -134,12 +135,12 @@ fn feed_more(
 }
 
 // The lines of packets, as many as the output has room for; where it has no more, it is written and emptied.
-fn put_lines(w: Listing, ends: &[u64], sizes: &[u64], kept: &[u64], out: &mut [u8]) -> Step {
+fn put_lines(w: Listing, ends: &[u64], lengths: &[u64], kept: &[u64], out: &mut [u8]) -> Step {
     let put = list_entries::put_entries(
         out,
         w.filled,
         part(ends, w.listed, w.packets),
-        part(sizes, w.listed, w.packets),
+        part(lengths, w.listed, w.packets),
         part(kept, w.listed, w.packets),
     );
     let listed = std::num::wrapping_add_usize(w.listed, put.count);
@@ -206,16 +207,16 @@ fn turn(
     buffer: &mut [u8],
     carry: &mut [u8],
     ends: &mut [u64],
-    sizes: &mut [u64],
+    lengths: &mut [u64],
     kept: &mut [u64],
     out: &mut [u8],
 ) -> Step {
     if w.listed < w.packets {
-        return put_lines(w, ends, sizes, kept, out);
+        return put_lines(w, ends, lengths, kept, out);
     }
     let stop = w.stop;
     match stop {
-        Stop::Full => Step::Goes(feed_more(w, buffer, carry, ends, sizes, kept)),
+        Stop::Full => Step::Goes(feed_more(w, buffer, carry, ends, lengths, kept)),
         Stop::Cut => read_on(w, buffer, out),
         Stop::Refused(why) => {
             end_with_refusal(w, why, out);
@@ -230,14 +231,14 @@ fn run(
     buffer: &mut [u8],
     carry: &mut [u8],
     ends: &mut [u64],
-    sizes: &mut [u64],
+    lengths: &mut [u64],
     kept: &mut [u64],
     out: &mut [u8],
 ) {
     let mut w = start;
     let mut turns = u64::MAX;
     while turns > 0 {
-        match turn(w, buffer, carry, ends, sizes, kept, out) {
+        match turn(w, buffer, carry, ends, lengths, kept, out) {
             Step::Goes(next) => w = next,
             Step::Ends => return,
         }
@@ -247,9 +248,9 @@ fn run(
 
 fn main() {
     let mut buffer = [0u8; 262144];
-    let mut carry = [0u8; 61440];
+    let mut carry = [0u8; PACKET_MAX];
     let mut ends = [0u64; 1024];
-    let mut sizes = [0u64; 1024];
+    let mut lengths = [0u64; 1024];
     let mut kept = [0u64; 1024];
     let mut out = [0u8; 131072];
     let filled = list_lines::put_first(&mut out, 0);
@@ -269,7 +270,7 @@ fn main() {
         &mut buffer,
         &mut carry,
         &mut ends,
-        &mut sizes,
+        &mut lengths,
         &mut kept,
         &mut out,
     );

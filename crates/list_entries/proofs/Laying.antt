@@ -22,7 +22,7 @@ use Rattle.list_entries.specs.Code.{tailLine, Again}
 covered : (d : Bytes) (at : ℕ) (a s : Bytes) → length a ≤ length s → at + length s ≤ length d → copied (copied d at a) at s ≡ copied d at s
 covered d at a s h fits =
     let p : Bytes = paste d at a (length a) in
-    let size : length p ≡ length d = length-paste d at a (length a) (omega arith) (le-refl (length a)) in
+    let long : length p ≡ length d = length-paste d at a (length a) (omega arith) (le-refl (length a)) in
     let front : take at p ≡ take at d =
     (take-append-le at (take at d ++ take (length a) a) (drop (at + length a) d) (rw (length-append, length-take-le at d (omega arith)) (omega arith))
     ∙ take-at (take at d) (take (length a) a) at (length-take-le at d (omega arith))) in
@@ -49,13 +49,13 @@ over d at a s i h k fits =
 
 -- ---- a line of the bytes that are kept
 
-pub line-parts : (end size kept : ℕ) → entryLine end size kept ≡ decimal end ++ tailLine size kept
+pub line-parts : (end samples kept : ℕ) → entryLine end samples kept ≡ decimal end ++ tailLine samples kept
 unfolding entryLine tailLine
-line-parts end size kept = simp append-assoc
+line-parts end samples kept = simp append-assoc
 
 module _ {d : Bytes} {at end : ℕ} {c : Repeat} (a : Again d at c end) where
   abbrev tail : Bytes
-  tail = tailLine (c .size) (c .kept)
+  tail = tailLine (c .samples) (c .kept)
 
   size-upper : length (decimal (c .base / 10000)) ≡ c .digits
   size-upper = ap length (sym (a .has .upper)) ∙ length-take-le (c .digits) (octets 8 (c .upper)) (omega (arith, length-octets 8 (c .upper), a .has .eight))
@@ -81,10 +81,10 @@ module _ {d : Bytes} {at end : ℕ} {c : Repeat} (a : Again d at c end) where
 
   -- the tail's first eight bytes, and its last eight over them
   tailed : {y z o : Bytes} → y ≡ copied d at (decimal end) → z ≡ copied y (at + c .digits + 4) (octets 8 (c .first))
-      → o ≡ copied z (at + c .digits + 4 + c .length - 8) (octets 8 (c .last)) → o ≡ copied d at (decimal end ++ tail)
+      → o ≡ copied z (at + c .digits + 4 + c .bytes - 8) (octets 8 (c .last)) → o ≡ copied d at (decimal end ++ tail)
   tailed {y} {z} {o} hy hz ho =
       let h = a .has in
-      let t : ℕ = c .length in
+      let t : ℕ = c .bytes in
       let f : Bytes = take 8 tail in
       let l : Bytes = drop (t - 8) tail in
       let i : ℕ = length (decimal end) + (t - 8) in
@@ -103,9 +103,9 @@ module _ {d : Bytes} {at end : ℕ} {c : Repeat} (a : Again d at c end) where
       ∙ ap (copied d at) text)
 
   pub laid-again : {x y z o : Bytes} → x ≡ copied d at (octets 8 (c .upper)) → y ≡ copied x (at + c .digits) (lowest 4 (end - c .base))
-      → z ≡ copied y (at + c .digits + 4) (octets 8 (c .first)) → o ≡ copied z (at + c .digits + 4 + c .length - 8) (octets 8 (c .last))
-      → Laid d at (entryLine end (c .size) (c .kept)) (at + c .digits + 4 + c .length) o
-  laid-again hx hy hz ho = rw (line-parts end (c .size) (c .kept)) (record {
+      → z ≡ copied y (at + c .digits + 4) (octets 8 (c .first)) → o ≡ copied z (at + c .digits + 4 + c .bytes - 8) (octets 8 (c .last))
+      → Laid d at (entryLine end (c .samples) (c .kept)) (at + c .digits + 4 + c .bytes) o
+  laid-again hx hy hz ho = rw (line-parts end (c .samples) (c .kept)) (record {
     place = omega (arith, length-append (decimal end) tail, size-stamp, a .has .long);
     output = tailed (stamped hx hy) hz ho;
   })

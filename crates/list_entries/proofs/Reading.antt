@@ -19,9 +19,9 @@ use Rattle.list_entries.specs.declared.Repeat.{Repeat}
 use Rattle.list_entries.specs.Code.{tailLine, Has, Stands}
 use Rattle.list_entries.proofs.Laying.{line-parts}
 
-pub length-tail : (size kept : ℕ) → length (tailLine size kept) ≡ length (decimal size) + length (decimal kept) + 3
+pub length-tail : (samples kept : ℕ) → length (tailLine samples kept) ≡ length (decimal samples) + length (decimal kept) + 3
 unfolding tailLine
-length-tail size kept = simp length-append (omega arith)
+length-tail samples kept = simp length-append (omega arith)
 
 -- 1,000 has four digits
 at-least-four : (x : ℕ) → 1000 ≤ x → 4 ≤ length (decimal x)
@@ -44,13 +44,13 @@ eight-at out line at i o fits same h =
     ∙ sym (take-within 8 i (length line) (drop at out) h)
     ∙ ap (λ (l : Bytes). take 8 (drop i l)) same
 
-module _ {out : Bytes} {at next end size kept : ℕ} (s : Stands out at next end size kept) (o : Octets out)
-    (low : 10000000 ≤ end) (high : end < 1000000000000) {t : ℕ} (ht : t ≡ length (tailLine size kept)) (least : 8 ≤ t) where
+module _ {out : Bytes} {at next end samples kept : ℕ} (s : Stands out at next end samples kept) (o : Octets out)
+    (low : 10000000 ≤ end) (high : end < 1000000000000) {t : ℕ} (ht : t ≡ length (tailLine samples kept)) (least : 8 ≤ t) where
   abbrev line : Bytes
-  line = entryLine end size kept
+  line = entryLine end samples kept
 
   abbrev tail : Bytes
-  tail = tailLine size kept
+  tail = tailLine samples kept
 
   abbrev upper : Bytes
   upper = decimal (end / 10000)
@@ -59,7 +59,7 @@ module _ {out : Bytes} {at next end size kept : ℕ} (s : Stands out at next end
   fours = lowest 4 (end % 10000)
 
   parts : line ≡ (upper ++ fours) ++ tail
-  parts = line-parts end size kept ∙ ap (λ (b : Bytes). b ++ tail) (decimal-fours end (omega arith))
+  parts = line-parts end samples kept ∙ ap (λ (b : Bytes). b ++ tail) (decimal-fours end (omega arith))
 
   pub few : (4 ≤ length upper) × (length upper ≤ 8)
   few = (at-least-four (end / 10000) (omega arith), length-most (end / 10000) 7 (omega arith))
@@ -71,7 +71,7 @@ module _ {out : Bytes} {at next end size kept : ℕ} (s : Stands out at next end
   whole = s .place ∙ omega (arith, ap length parts, length-append (upper ++ fours) tail, stamp)
 
   eight : (i : ℕ) → i + 8 ≤ length upper + 4 + t → octets 8 (number 8 out (at + i)) ≡ take 8 (drop i line)
-  eight i h = eight-at out line at i o (omega (arith, s .place, s .fits)) (s .line) (omega (arith, s .place, whole))
+  eight i h = eight-at out line at i o (omega (arith, s .place, s .inside)) (s .line) (omega (arith, s .place, whole))
 
   front : take 8 line ≡ take 8 (upper ++ fours)
   front = rw parts (take-append-le 8 (upper ++ fours) tail (omega (arith, stamp, few)))
@@ -90,8 +90,8 @@ module _ {out : Bytes} {at next end size kept : ℕ} (s : Stands out at next end
   read-from : (place i : ℕ) → place ≡ at + (length upper + 4 + i) → i + 8 ≤ t → octets 8 (number 8 out place) ≡ take 8 (drop i tail)
   read-from place i e h = rw e (eight (length upper + 4 + i) (omega arith) ∙ ap (take 8) (behind i))
 
-  pub has : (c : Repeat) → t ≤ 16 → c .base ≡ end / 10000 * 10000 → c .size ≡ size → c .kept ≡ kept → c .digits ≡ next - t - 4 - at
-      → c .length ≡ t → c .upper ≡ number 8 out at → c .first ≡ number 8 out (next - t) → c .last ≡ number 8 out (next - 8) → Has c
+  pub has : (c : Repeat) → t ≤ 16 → c .base ≡ end / 10000 * 10000 → c .samples ≡ samples → c .kept ≡ kept → c .digits ≡ next - t - 4 - at
+      → c .bytes ≡ t → c .upper ≡ number 8 out at → c .first ≡ number 8 out (next - t) → c .last ≡ number 8 out (next - 8) → Has c
   has c most hb hs hk hd hl hu hf hz =
       let digits : c .digits ≡ length upper = omega (arith, whole) in
       let base : c .base / 10000 ≡ end / 10000 = omega arith in

@@ -10,13 +10,13 @@ use Rattle.octets.specs.Numbers.{octets}
 use Rattle.text_put.specs.Writing.{Laid}
 use Rattle.text_put.specs.Marks.{space, lineFeed}
 use Rattle.text_decimal.specs.Decimal.{decimal}
-use Rattle.list_lines.specs.Lines.{entryLine}
+use Rattle.list_lines.specs.Lines.{entryLine, longest}
 use Rattle.list_entries.specs.declared.Repeat.{Repeat}
 use Rattle.list_entries.specs.declared.Next.{Next}
 
 -- what follows the end stamp
 unfoldable pub tailLine : ℕ → ℕ → Bytes
-tailLine size kept = space ++ decimal size ++ space ++ decimal kept ++ lineFeed
+tailLine samples kept = space ++ decimal samples ++ space ++ decimal kept ++ lineFeed
 
 -- the bytes that c has: the digits of the stamps from `base` on but the last four, and what follows a stamp
 pub record Has (c : Repeat) : Type 0 where
@@ -25,11 +25,11 @@ pub record Has (c : Repeat) : Type 0 where
   pub four : 4 ≤ c .digits
   pub eight : c .digits ≤ 8
   pub upper : take (c .digits) (octets 8 (c .upper)) ≡ decimal (c .base / 10000)
-  pub long : c .length ≡ length (tailLine (c .size) (c .kept))
-  pub least : 8 ≤ c .length
-  pub most : c .length ≤ 16
-  pub first : octets 8 (c .first) ≡ take 8 (tailLine (c .size) (c .kept))
-  pub last : octets 8 (c .last) ≡ drop (c .length - 8) (tailLine (c .size) (c .kept))
+  pub long : c .bytes ≡ length (tailLine (c .samples) (c .kept))
+  pub least : 8 ≤ c .bytes
+  pub most : c .bytes ≤ 16
+  pub first : octets 8 (c .first) ≡ take 8 (tailLine (c .samples) (c .kept))
+  pub last : octets 8 (c .last) ≡ drop (c .bytes - 8) (tailLine (c .samples) (c .kept))
 
 -- no digits: nothing is kept
 abbrev pub Sound : Repeat → Type 0
@@ -37,21 +37,26 @@ Sound c = 1 ≤ c .digits → Has c
 
 -- the line of this packet is made of the bytes that c has, and its last four digits
 abbrev pub isAgain : Repeat → ℕ → ℕ → ℕ → Bool
-isAgain c end size kept =
-    ltb 0 (c .digits) && (leb (c .base) end && (ltb (end - c .base) 10000 && (eqb size (c .size) && eqb kept (c .kept))))
+isAgain c end samples kept =
+    ltb 0 (c .digits) && (leb (c .base) end && (ltb (end - c .base) 10000 && (eqb samples (c .samples) && eqb kept (c .kept))))
 
 -- there is room for it
 pub record Again (out : Bytes) (at : ℕ) (c : Repeat) (end : ℕ) : Type 0 where
   pub has : Has c
-  pub room : at + 63 ≤ length out
+  pub room : at + longest ≤ length out
   pub above : c .base ≤ end
   pub near : end - c .base < 10000
 
+-- there is room for any line, and c has what it tells
+pub record Ready (out : Bytes) (at : ℕ) (c : Repeat) : Type 0 where
+  pub room : at + longest ≤ length out
+  pub sound : Sound c
+
 -- the line of a packet stands at a place of the buffer
-pub record Stands (out : Bytes) (at next end size kept : ℕ) : Type 0 where
-  pub place : next ≡ at + length (entryLine end size kept)
-  pub fits : next ≤ length out
-  pub line : take (length (entryLine end size kept)) (drop at out) ≡ entryLine end size kept
+pub record Stands (out : Bytes) (at next end samples kept : ℕ) : Type 0 where
+  pub place : next ≡ at + length (entryLine end samples kept)
+  pub inside : next ≤ length out
+  pub line : take (length (entryLine end samples kept)) (drop at out) ≡ entryLine end samples kept
 
 -- a line s is laid, and bytes are kept of it
 pub record Lays (d : Bytes) (at : ℕ) (s : Bytes) (r : Next) (out : Bytes) : Type 0 where

@@ -1,4 +1,4 @@
--- The lines of several packets, one behind the other (document 01, "The listing program"). Assumes nothing.
+-- The lines of several packets, one after the other (document 01, "The listing program"). Assumes nothing.
 use Prim.Native.Nat.{ℕ, suc, _+_, _-_}
 use mathlib.Core.Path.{_≡_}
 use mathlib.Core.List.{List, [], _∷_, _++_}
@@ -6,12 +6,8 @@ use lib.Dec.{ltb}
 use lib.ListN.{length}
 use Rattle.octets.specs.Pick.{pick}
 use Rattle.octets.specs.Octets.{Bytes, copied}
-use Rattle.list_lines.specs.Lines.{entryLine}
+use Rattle.list_lines.specs.Lines.{entryLine, longest}
 use Rattle.list_entries.specs.declared.Listed.{Listed}
-
--- no line of a packet is longer: three numbers of 20 digits, two spaces and a line feed
-abbrev pub longest : ℕ
-longest = 63
 
 -- some lines, and how many they are
 pub record Lined : Type 0 where
@@ -27,11 +23,11 @@ before line l = record { text = line ++ l .text; count = suc (l .count) }
 -- the lines of packets, by their end stamps, lengths and kept counts, as long as `room` has room for any line; the shortest
 -- of the three lists tells how many packets there are
 unfoldable pub linesIn : ℕ → List ℕ → List ℕ → List ℕ → Lined
-linesIn room [] sizes kept = noLines
+linesIn room [] lengths kept = noLines
 linesIn room (e ∷ ends) [] kept = noLines
-linesIn room (e ∷ ends) (s ∷ sizes) [] = noLines
-linesIn room (e ∷ ends) (s ∷ sizes) (k ∷ kept) =
-    pick (ltb room longest) noLines (before (entryLine e s k) (linesIn (room - length (entryLine e s k)) ends sizes kept))
+linesIn room (e ∷ ends) (s ∷ lengths) [] = noLines
+linesIn room (e ∷ ends) (s ∷ lengths) (k ∷ kept) =
+    pick (ltb room longest) noLines (before (entryLine e s k) (linesIn (room - length (entryLine e s k)) ends lengths kept))
 
 -- the answer r, and the buffer from d at entry to `out` at exit: the lines from place `at` on, and the rest of d
 pub record PutLines (d : Bytes) (at : ℕ) (l : Lined) (r : Listed) (out : Bytes) : Type 0 where

@@ -11,31 +11,31 @@ use Rattle.text_put.proofs.Laying.{laid-next}
 use Rattle.text_put.proofs.Putting.{laid-put, laid-then}
 use Rattle.text_decimal.specs.Decimal.{decimal}
 use Rattle.text_decimal.proofs.Decimal.{length-ended, length-u64}
-use Rattle.list_lines.specs.Lines.{entryLine, totalKept, andSkipped, andTrimmed, andHole, totalLine, refusedBy, onPage, refusedLine}
+use Rattle.list_lines.specs.Lines.{longest, entryLine, totalKept, andSkipped, andTrimmed, andHole, totalLine, refusedBy, onPage, refusedLine}
 
 pub length-pair : (s t : Bytes) (x y : ℕ)
     → length ((s ++ decimal x) ++ (t ++ decimal y)) ≡ length s + length (decimal x) + length t + length (decimal y)
 length-pair s t x y = simp length-append (omega arith)
 
-module _ (end dur kept : ℕ) where
-  pub length-entry : length (entryLine end dur kept) ≡ length (decimal end) + length (decimal dur) + length (decimal kept) + 3
+module _ (end samples kept : ℕ) where
+  pub length-entry : length (entryLine end samples kept) ≡ length (decimal end) + length (decimal samples) + length (decimal kept) + 3
   unfolding entryLine
   length-entry = simp length-append (omega arith)
 
-  pub entry-most : end < 2 ^ 64 → dur < 2 ^ 64 → kept < 2 ^ 64 → length (entryLine end dur kept) ≤ 63
-  entry-most h k l = omega (arith, length-entry, length-u64 end h, length-u64 dur k, length-u64 kept l)
+  pub entry-most : end < 2 ^ 64 → samples < 2 ^ 64 → kept < 2 ^ 64 → length (entryLine end samples kept) ≤ longest
+  entry-most h k l = omega (arith, length-entry, length-u64 end h, length-u64 samples k, length-u64 kept l)
 
-  entry-parts : entryLine end dur kept ≡ ((decimal end ++ space) ++ (decimal dur ++ space)) ++ (decimal kept ++ lineFeed)
+  entry-parts : entryLine end samples kept ≡ ((decimal end ++ space) ++ (decimal samples ++ space)) ++ (decimal kept ++ lineFeed)
   unfolding entryLine
   entry-parts = simp append-assoc
 
-  pub laid-entry : {d x y z : Bytes} {at a b r : ℕ} → Put d at (decimal end ++ space) a x → Put x a (decimal dur ++ space) b y
-      → Put y b (decimal kept ++ lineFeed) r z → at + length (entryLine end dur kept) ≤ length d → Laid d at (entryLine end dur kept) r z
+  pub laid-entry : {d x y z : Bytes} {at a b r : ℕ} → Put d at (decimal end ++ space) a x → Put x a (decimal samples ++ space) b y
+      → Put y b (decimal kept ++ lineFeed) r z → at + length (entryLine end samples kept) ≤ length d → Laid d at (entryLine end samples kept) r z
   laid-entry e f g room =
       let he = length-ended end 32 in
-      let hf = length-ended dur 32 in
+      let hf = length-ended samples 32 in
       let hg = length-ended kept 10 in
-      let both = length-append (decimal end ++ space) (decimal dur ++ space) in
+      let both = length-append (decimal end ++ space) (decimal samples ++ space) in
       let size = length-entry in
       let one = laid-put (omega arith) e in
       let two = laid-then one (omega (arith, one .place)) f in

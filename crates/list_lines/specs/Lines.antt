@@ -1,6 +1,7 @@
 -- The lines of a listing (document 01, "The listing program"). Assumes nothing.
-use Prim.Native.Nat.{ℕ}
+use Prim.Native.Nat.{ℕ, _+_, _≤_}
 use mathlib.Core.List.{[], _∷_, _++_}
+use lib.ListN.{length}
 use Rattle.octets.specs.Octets.{Bytes}
 use Rattle.text_put.specs.Marks.{space, lineFeed}
 use Rattle.text_decimal.specs.Decimal.{decimal}
@@ -11,7 +12,11 @@ firstLine = 101 ∷ 110 ∷ 100 ∷ 32 ∷ 100 ∷ 117 ∷ 114 ∷ 32 ∷ 107 �
 
 -- one packet: its end stamp, its length and how many of its samples are kept
 unfoldable pub entryLine : ℕ → ℕ → ℕ → Bytes
-entryLine end dur kept = decimal end ++ space ++ decimal dur ++ space ++ decimal kept ++ lineFeed
+entryLine end samples kept = decimal end ++ space ++ decimal samples ++ space ++ decimal kept ++ lineFeed
+
+-- no line of a packet is longer: three numbers of 20 digits, two spaces and a line feed
+abbrev pub longest : ℕ
+longest = 63
 
 -- "total kept="
 abbrev pub totalKept : Bytes
@@ -32,7 +37,8 @@ andHole = 32 ∷ 104 ∷ 111 ∷ 108 ∷ 101 ∷ 61 ∷ []
 -- the last line of a listing that was not refused
 unfoldable pub totalLine : ℕ → ℕ → ℕ → ℕ → Bytes
 totalLine kept skipped trimmed hole =
-    totalKept ++ decimal kept ++ andSkipped ++ decimal skipped ++ andTrimmed ++ decimal trimmed ++ andHole ++ decimal hole ++ lineFeed
+    totalKept ++ decimal kept ++ andSkipped ++ decimal skipped
+    ++ andTrimmed ++ decimal trimmed ++ andHole ++ decimal hole ++ lineFeed
 
 -- "refused "
 abbrev pub refusedBy : Bytes
@@ -45,3 +51,18 @@ onPage = 32 ∷ 112 ∷ 97 ∷ 103 ∷ 101 ∷ 32 ∷ []
 -- the last line of a listing that was: the refusal's number, and the page's, from 0
 unfoldable pub refusedLine : ℕ → ℕ → Bytes
 refusedLine number page = refusedBy ++ decimal number ++ onPage ++ decimal page ++ lineFeed
+
+-- ---- the parts of a line
+
+-- a name, and the digits of a number after it
+abbrev pub named : Bytes → ℕ → Bytes
+named name x = name ++ decimal x
+
+-- they are in the buffer from place `at` on
+abbrev pub HasNamed : Bytes → ℕ → Bytes → ℕ → Type 0
+HasNamed out at name x = at + length name + length (decimal x) ≤ length out
+
+-- two of them
+abbrev pub HasPair : Bytes → ℕ → Bytes → ℕ → Bytes → ℕ → Type 0
+HasPair out at first x second y =
+    at + length first + length (decimal x) + length second + length (decimal y) ≤ length out

@@ -1,45 +1,48 @@
 // The lines of a listing, as text. Each function puts one whole line into a lent buffer, or nothing where it does not fit,
-// and answers the place behind it.
+// and answers the place after it.
 ghost use mathlib.Core.Path.{_≡_};
 ghost use mathlib.Core.List.{_++_};
-ghost use Prim.Native.Nat.{_+_, _≤_};
+ghost use Prim.Native.Nat.{_+_};
 ghost use lib.Dec.{ltb};
 ghost use lib.ListN.{length};
 ghost use Rattle.text_put.specs.Writing.{Put, Laid};
-ghost use Rattle.text_decimal.specs.Decimal.{decimal};
-ghost use Rattle.list_lines.specs.Lines.{firstLine, entryLine, totalLine, refusedLine};
+ghost use Rattle.list_lines.specs.Lines.{firstLine, entryLine, totalLine, refusedLine, named, HasNamed, HasPair};
 
-// A name, and the digits of a number behind it.
+// No line of a packet is longer: three numbers of 20 digits, two spaces and a line feed.
+pub const LONGEST: usize = 63;
+
+// A name, and the digits of a number after it.
 fn put_named(out: &mut [u8], at: usize, name: &[u8], x: u64) -> usize
-    requires { ⌜ at + length (now name) + length (decimal x) ≤ length (now out) ⌝ }
-    ensures { λ r. ⌜ Laid (now (out .entry)) at (now (name .entry) ++ decimal x) r (now (out .exit)) ⌝ }
+    requires { ⌜ HasNamed (now out) at (now name) x ⌝ }
+    ensures { λ r. ⌜ Laid (now (out .entry)) at (named (now (name .entry)) x) r (now (out .exit)) ⌝ }
 {
     octets::copy_at(out, at, name);
     text_decimal::put_decimal(out, at + name.len(), x)
 }
 
-// Two numbers, each behind its name.
+// Two numbers, each after its name.
 fn put_pair(out: &mut [u8], at: usize, first: &[u8], x: u64, second: &[u8], y: u64) -> usize
-    requires { ⌜ at + length (now first) + length (decimal x) + length (now second) + length (decimal y) ≤ length (now out) ⌝ }
-    ensures { λ r. ⌜ Laid (now (out .entry)) at ((now (first .entry) ++ decimal x) ++ (now (second .entry) ++ decimal y)) r (now (out .exit)) ⌝ }
+    requires { ⌜ HasPair (now out) at (now first) x (now second) y ⌝ }
+    ensures { λ r. ⌜ Laid (now (out .entry)) at (named (now (first .entry)) x ++ named (now (second .entry)) y) r
+        (now (out .exit)) ⌝ }
 {
     let next = put_named(out, at, first, x);
     put_named(out, next, second, y)
 }
 
-// Whether an entry's line passes the end of the buffer. No line is longer than 63 bytes, so its digits are counted only
-// where fewer are left.
-fn lacks_entry(len: usize, at: usize, end: u64, dur: u64, kept: u64) -> bool
-    ensures { λ r. ⌜ r ≡ ltb len (at + length (entryLine end dur kept)) ⌝ }
+// Whether an entry's line passes the end of the buffer. Its digits are counted only where fewer bytes are left than the
+// longest line has.
+fn lacks_entry(len: usize, at: usize, end: u64, samples: u64, kept: u64) -> bool
+    ensures { λ r. ⌜ r ≡ ltb len (at + length (entryLine end samples kept)) ⌝ }
 {
-    if !text_put::is_short(len, at, 63) {
+    if !octets::is_short(len, at, LONGEST) {
         return false;
     }
-    text_put::is_short(
+    octets::is_short(
         len,
         at,
         text_decimal::digits_of(end)
-            + text_decimal::digits_of(dur)
+            + text_decimal::digits_of(samples)
             + text_decimal::digits_of(kept)
             + 3,
     )
@@ -48,7 +51,7 @@ fn lacks_entry(len: usize, at: usize, end: u64, dur: u64, kept: u64) -> bool
 fn lacks_total(len: usize, at: usize, kept: u64, skipped: u64, trimmed: u64, hole: u64) -> bool
     ensures { λ r. ⌜ r ≡ ltb len (at + length (totalLine kept skipped trimmed hole)) ⌝ }
 {
-    text_put::is_short(
+    octets::is_short(
         len,
         at,
         36
@@ -62,7 +65,7 @@ fn lacks_total(len: usize, at: usize, kept: u64, skipped: u64, trimmed: u64, hol
 fn lacks_refused(len: usize, at: usize, number: u64, page: u64) -> bool
     ensures { λ r. ⌜ r ≡ ltb len (at + length (refusedLine number page)) ⌝ }
 {
-    text_put::is_short(
+    octets::is_short(
         len,
         at,
         15 + text_decimal::digits_of(number) + text_decimal::digits_of(page),
@@ -73,7 +76,7 @@ fn lacks_refused(len: usize, at: usize, number: u64, page: u64) -> bool
 pub fn put_first(out: &mut [u8], at: usize) -> usize
     ensures { λ r. ⌜ Put (now (out .entry)) at firstLine r (now (out .exit)) ⌝ }
 {
-    if text_put::is_short(out.len(), at, 13) {
+    if octets::is_short(out.len(), at, 13) {
         return at;
     }
     octets::copy_at(out, at, b"end dur kept\n");
@@ -81,14 +84,14 @@ pub fn put_first(out: &mut [u8], at: usize) -> usize
 }
 
 // The line of a packet: its end stamp, its length and how many of its samples are kept.
-pub fn put_entry(out: &mut [u8], at: usize, end: u64, dur: u64, kept: u64) -> usize
-    ensures { λ r. ⌜ Put (now (out .entry)) at (entryLine end dur kept) r (now (out .exit)) ⌝ }
+pub fn put_entry(out: &mut [u8], at: usize, end: u64, samples: u64, kept: u64) -> usize
+    ensures { λ r. ⌜ Put (now (out .entry)) at (entryLine end samples kept) r (now (out .exit)) ⌝ }
 {
-    if lacks_entry(out.len(), at, end, dur, kept) {
+    if lacks_entry(out.len(), at, end, samples, kept) {
         return at;
     }
     let second = text_decimal::put_ended(out, at, end, b' ');
-    let third = text_decimal::put_ended(out, second, dur, b' ');
+    let third = text_decimal::put_ended(out, second, samples, b' ');
     text_decimal::put_ended(out, third, kept, b'\n')
 }
 

@@ -1,12 +1,13 @@
 // Numbers in bytes, lowest byte first; bytes past the end are zero.
 ghost use mathlib.Core.Path.{_≡_};
-ghost use Prim.Native.Nat.{_≤_, _<_, _^_};
+ghost use Prim.Native.Nat.{_≤_};
 ghost use Rattle.octets.specs.Numbers.{number};
+ghost use Rattle.number_reader.specs.Reading.{NumberRead};
 
 // The number in the n bytes from `at` on. The last byte comes first, so that each turn is one digit more.
 fn number_at(s: &[u8], at: usize, n: usize) -> u64
     requires { ⌜ n ≤ 8 ⌝ }
-    ensures { λ r. ⌜ (r ≡ number n (now (s .entry)) at) × (r < 256 ^ n) ⌝ }
+    ensures { λ r. ⌜ NumberRead n (now (s .entry)) at r ⌝ }
 {
     if s.len() <= at {
         return 0;

@@ -42,12 +42,6 @@ pub fn put8(d: &mut [u8], at: usize, x: u8)
     put_number(d, at, 1, x as u64)
 }
 
-pub fn put16(d: &mut [u8], at: usize, x: u16)
-    ensures { λ _. ⌜ now (d .exit) ≡ copied (now (d .entry)) at (octets 2 x) ⌝ }
-{
-    put_number(d, at, 2, x as u64)
-}
-
 pub fn put32(d: &mut [u8], at: usize, x: u32)
     ensures { λ _. ⌜ now (d .exit) ≡ copied (now (d .entry)) at (octets 4 x) ⌝ }
 {

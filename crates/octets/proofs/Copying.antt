@@ -39,7 +39,7 @@ copied-next d a s h =
     copied-fits (a ++ r) (length a) s (omega arith)
     ∙ simp (take-at a r (length a) refl, take-length s, ← drop-drop (length s) (length a) (a ++ r), past)
 
--- a is copied to a place, and s right behind it
+-- a is copied to a place, and s right after it
 pub copied-append : (d : Bytes) (at : ℕ) (a s : Bytes) (k : ℕ) → k ≡ at + length a → k + length s ≤ length d
     → copied (copied d at a) k s ≡ copied d at (a ++ s)
 copied-append d at a s k e h =

@@ -1,10 +1,10 @@
 -- Tests on numbers: from what calls gave to what their promises name, and a test made of two. Assumes nothing.
 use mathlib.Core.Path.{_≡_, refl, _∙_, sym}
 use mathlib.Core.Bool.{Bool, true, false, not, _&&_}
-use Prim.Native.Nat.{ℕ}
+use Prim.Native.Nat.{ℕ, _≤_, _<_}
 use native.Mathlib.Omega.{arith}
-use borrow.Author.Tests.{eq-eqb, ne-eqb, eqb-true, not-true, not-false}
-use lib.Dec.{eqb}
+use borrow.Author.Tests.{eq-eqb, ne-eqb, eqb-true, ltb-true, ltb-false, not-true, not-false}
+use lib.Dec.{eqb, ltb}
 
 -- two numbers that calls gave
 pub agrees : {r q x y : ℕ} → r ≡ x → q ≡ y → r ≡ q → eqb x y ≡ true
@@ -19,6 +19,13 @@ equals {k = k} e h = agrees {y = k} e refl h
 
 pub unequal : {r x k : ℕ} → r ≡ x → (r ≡ k → ⊥) → eqb x k ≡ false
 unequal {k = k} e h = differs {y = k} e refl h
+
+-- a call's answer to whether a number is below another, as `octets::is_short` gives it
+pub is-below : {r : Bool} {a b : ℕ} → r ≡ ltb a b → r ≡ true → a < b
+is-below {a = a} {b = b} e h = ltb-true a b (sym e ∙ h)
+
+pub not-below : {r : Bool} {a b : ℕ} → r ≡ ltb a b → r ≡ false → b ≤ a
+not-below {a = a} {b = b} e h = ltb-false a b (sym e ∙ h)
 
 -- a call's answer tested by `if !f(x)`
 pub failed : {r t : Bool} → r ≡ t → not r ≡ true → t ≡ false

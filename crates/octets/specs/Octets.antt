@@ -1,5 +1,6 @@
 -- Lists of bytes: their sum, how they begin, and a copy into a lent buffer. A byte is a number below 256. Assumes nothing.
-use Prim.Native.Nat.{ℕ, _+_, _<_}
+use Prim.Native.Nat.{ℕ, _+_, _≤_, _<_}
+use mathlib.Core.Path.{_≡_}
 use mathlib.Core.Bool.{Bool, true, false, _&&_}
 use mathlib.Core.List.{List, [], _∷_}
 use lib.Dec.{leb, eqb}
@@ -13,6 +14,11 @@ Bytes = List ℕ
 -- each of them is below 256
 pub record Octets (s : Bytes) : Type 0 where
   pub below : (i : ℕ) → getD s i 0 < 256
+
+-- a byte x as a wider number r
+pub record Widened (x r : ℕ) : Type 0 where
+  pub same : r ≡ x
+  pub most : r ≤ 255
 
 unfoldable pub total : List ℕ → ℕ
 total [] = 0

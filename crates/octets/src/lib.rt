@@ -1,9 +1,10 @@
 // Bytes in lent buffers: one byte, parts, and copies. Every function is total: what is read past the end of a buffer is
 // zero, and what does not fit into one is not written.
 ghost use mathlib.Core.Path.{_≡_};
-ghost use Prim.Native.Nat.{_≤_, min};
+ghost use Prim.Native.Nat.{_+_, min};
+ghost use lib.Dec.{ltb};
 ghost use lib.ListN.{getD, take, drop};
-ghost use Rattle.octets.specs.Octets.{begins, copied};
+ghost use Rattle.octets.specs.Octets.{Widened, begins, copied};
 
 pub fn least(a: usize, b: usize) -> usize
     ensures { λ r. ⌜ r ≡ min a b ⌝ }
@@ -46,19 +47,26 @@ pub fn part_of(s: &[u8], at: usize, n: usize) -> &[u8]
 
 // A byte as a count or an index.
 pub fn wide(x: u8) -> usize
-    ensures { λ r. ⌜ (r ≡ x) × (r ≤ 255) ⌝ }
+    ensures { λ r. ⌜ Widened x r ⌝ }
 {
     x as usize
+}
+
+// Whether n bytes from `at` on pass the end of a buffer of `len` bytes.
+pub fn is_short(len: usize, at: usize, n: usize) -> bool
+    ensures { λ r. ⌜ r ≡ ltb len (at + n) ⌝ }
+{
+    if len < at {
+        return true;
+    }
+    len - at < n
 }
 
 // All of s into d from place `at` on, or nothing where it does not fit.
 pub fn copy_at(d: &mut [u8], at: usize, s: &[u8])
     ensures { λ _. ⌜ now (d .exit) ≡ copied (now (d .entry)) at (now (s .entry)) ⌝ }
 {
-    if d.len() < at {
-        return;
-    }
-    if d.len() - at < s.len() {
+    if is_short(d.len(), at, s.len()) {
         return;
     }
     let mut j = 0;

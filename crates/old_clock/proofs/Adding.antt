@@ -9,10 +9,12 @@ use borrow.Author.Tests.{lt-ltb, le-ltb, leb-true, eqb-true}
 use lib.Dec.{leb, eqb}
 use Rattle.octets.specs.Octets.{total}
 use Rattle.octets.proofs.Tests.{both}
+use Rattle.refusal.specs.declared.Refusal.the-variants.{ClockRange}
+use Rattle.refusal.specs.Numbers.{numberOf}
 use Rattle.refusal.specs.Checks.{firstOf}
 use Rattle.refusal.specs.Told.{Told, gives, refuses}
 use Rattle.old_clock.specs.declared.Clock.{Clock}
-use Rattle.old_clock.specs.Clock.{rightLength, rightLengths, mostCount, advanced, addLength, recordAfter, after}
+use Rattle.old_clock.specs.Clock.{rightLength, rightLengths, mostCount, advanced, addSamples, recordAfter, after}
 use Rattle.old_clock.specs.Statements.{CountsAll}
 
 pub record Multiple (n : ℕ) : Type 0 where
@@ -27,19 +29,19 @@ right-length n e =
     record { most = leb-true n 5760 (most .0); whole = eqb-true (n % 120) 0 (most .1) }
 
 module _ (c : Clock) (n : ℕ) where
-  pub wrong-length : rightLength n ≡ false → addLength c n ≡ refuses 30
-  unfolding addLength firstOf
+  pub wrong-length : rightLength n ≡ false → addSamples c n ≡ refuses (numberOf ClockRange)
+  unfolding addSamples firstOf
   wrong-length e = rw e
 
-  pub past-most : mostCount < c .count + n → rightLength n ≡ true → addLength c n ≡ refuses 30
-  unfolding addLength firstOf
+  pub past-most : mostCount < c .count + n → rightLength n ≡ true → addSamples c n ≡ refuses (numberOf ClockRange)
+  unfolding addSamples firstOf
   past-most h e = rw (e, lt-ltb mostCount (c .count + n) h)
 
-  pub taken : c .count + n ≤ mostCount → rightLength n ≡ true → addLength c n ≡ gives (advanced c n)
-  unfolding addLength firstOf
+  pub taken : c .count + n ≤ mostCount → rightLength n ≡ true → addSamples c n ≡ gives (advanced c n)
+  unfolding addSamples firstOf
   taken h e = rw (e, le-ltb mostCount (c .count + n) h)
 
--- the record after one packet that is taken and those behind it
+-- the record after one packet that is taken and those after it
 after-taken : (c : Clock) (n : ℕ) (lengths : List ℕ) → c .count + n ≤ mostCount → rightLength n ≡ true
     → after c (n ∷ lengths) ≡ after (advanced c n) lengths
 unfolding after

@@ -12,7 +12,7 @@ use lib.Ieee.{binary32, round, ofInt, size, span, climb, units, odd}
 use lib.Ieee.Exact.{HasValue}
 use lib.Ieee.Back.{round-whole}
 use Rattle.old_clock.specs.declared.Clock.{Clock}
-use Rattle.old_clock.specs.Clock.{startClock, rightLength, mostCount, advanced, addLength, recordAfter, after}
+use Rattle.old_clock.specs.Clock.{startClock, rightLength, mostCount, advanced, addSamples, recordAfter, after}
 use Rattle.old_clock.specs.Statements.{Reads, ReadsTrue, ReadsWrong, StandsStill}
 use Rattle.old_clock.proofs.Adding.{right-length, wrong-length, past-most, taken}
 use Rattle.old_clock.proofs.Whole.{add-whole, exact}
@@ -25,15 +25,15 @@ advanced-reads c a n r few reads sum =
 
 -- what holds of a record, and of what a right length makes of it, holds after any addition: a refusal leaves the record
 module _ (P : Clock → Type 0) (c : Clock) (n : ℕ) (stays : P c) (moves : rightLength n ≡ true → P (advanced c n)) where
-  counted : (t : Bool) → ltb mostCount (c .count + n) ≡ t → rightLength n ≡ true → P (recordAfter c (addLength c n))
+  counted : (t : Bool) → ltb mostCount (c .count + n) ≡ t → rightLength n ≡ true → P (recordAfter c (addSamples c n))
   counted true e right = rw (past-most c n (ltb-true mostCount (c .count + n) e) right) stays
   counted false e right = rw (taken c n (ltb-false mostCount (c .count + n) e) right) (moves right)
 
-  by-length : (t : Bool) → rightLength n ≡ t → P (recordAfter c (addLength c n))
+  by-length : (t : Bool) → rightLength n ≡ t → P (recordAfter c (addSamples c n))
   by-length true e = counted (ltb mostCount (c .count + n)) refl e
   by-length false e = rw (wrong-length c n e) stays
 
-  next : P (recordAfter c (addLength c n))
+  next : P (recordAfter c (addSamples c n))
   next = by-length (rightLength n) refl
 
 -- ---- equal to the count
@@ -72,7 +72,7 @@ equal-next c t n e =
 equal-after : (lengths : List ℕ) (c : Clock) → Equal c → Equal (after c lengths)
 unfolding after
 equal-after [] c t = t
-equal-after (n ∷ lengths) c t = equal-after lengths (recordAfter c (addLength c n)) (next Equal c n t (equal-next c t n))
+equal-after (n ∷ lengths) c t = equal-after lengths (recordAfter c (addSamples c n)) (next Equal c n t (equal-next c t n))
 
 pub reads-true : ReadsTrue
 reads-true lengths h =
@@ -104,4 +104,4 @@ unfolding after
 stands-still c reads zero = reads
 stands-still c reads (suc packets) =
     let still : Reads (advanced c 120) 2147483648 = advanced-reads c 2147483648 120 2147483648 (omega arith) reads still-sum in
-    stands-still (recordAfter c (addLength c 120)) (next (λ d. Reads d 2147483648) c 120 reads (λ e. still)) packets
+    stands-still (recordAfter c (addSamples c 120)) (next (λ d. Reads d 2147483648) c 120 reads (λ e. still)) packets

@@ -37,8 +37,8 @@ addChecks c n = ClockRange when not (rightLength n) ∷ ClockRange when ltb most
 abbrev pub advanced : Clock → ℕ → Clock
 advanced c n = record { reading = add binary32 (c .reading) (ofInt binary32 (pos n)); count = c .count + n }
 
-unfoldable pub addLength : Clock → ℕ → Told Clock
-addLength c n = decided (firstOf (addChecks c n)) (advanced c n)
+unfoldable pub addSamples : Clock → ℕ → Told Clock
+addSamples c n = decided (firstOf (addChecks c n)) (advanced c n)
 
 -- what the code's answer tells
 abbrev pub toldAdded : Added → Told Clock
@@ -55,4 +55,4 @@ recordAfter c (refuses n) = c
 -- the record after packets of these lengths
 unfoldable pub after : Clock → List ℕ → Clock
 after c [] = c
-after c (n ∷ ns) = after (recordAfter c (addLength c n)) ns
+after c (n ∷ ns) = after (recordAfter c (addSamples c n)) ns

@@ -1,6 +1,6 @@
 // The old clock, kept to explain the old logs: their count of samples was an f32. Beside it stands the exact count.
 ghost use mathlib.Core.Path.{_≡_};
-ghost use Rattle.old_clock.specs.Clock.{startClock, rightLength, addLength, toldAdded};
+ghost use Rattle.old_clock.specs.Clock.{startClock, rightLength, addSamples, toldAdded};
 use refusal::Refusal;
 
 pub struct Clock {
@@ -23,34 +23,34 @@ pub fn start() -> Clock
 }
 
 // A length in samples that a packet can have.
-fn right_length(length: u64) -> bool
-    ensures { λ r. ⌜ r ≡ rightLength length ⌝ }
+fn right_length(samples: u64) -> bool
+    ensures { λ r. ⌜ r ≡ rightLength samples ⌝ }
 {
-    if length < 120 {
+    if samples < 120 {
         return false;
     }
-    if length > 5760 {
+    if samples > 5760 {
         return false;
     }
-    length % 120 == 0
+    samples % 120 == 0
 }
 
 // The clock after a packet of this length. 30: no packet has this length, or the exact count would pass 2^63 - 1.
-pub fn add(clock: Clock, length: u64) -> Added
-    ensures { λ r. ⌜ toldAdded r ≡ addLength clock length ⌝ }
+pub fn add(clock: Clock, samples: u64) -> Added
+    ensures { λ r. ⌜ toldAdded r ≡ addSamples clock samples ⌝ }
 {
-    if !right_length(length) {
+    if !right_length(samples) {
         return Added::Refused(Refusal::ClockRange);
     }
     let count = clock.count;
-    if count > 9223372036854775807 - length {
+    if count > 9223372036854775807 - samples {
         return Added::Refused(Refusal::ClockRange);
     }
     // 16 bits hold every right length, and an f32 holds every number of 16 bits
-    let step = (length as u16) as f32;
+    let step = (samples as u16) as f32;
     let next = Clock {
         reading: clock.reading + step,
-        count: count + length,
+        count: count + samples,
     };
     Added::Clock(next)
 }

@@ -13,18 +13,22 @@ use lib.Seq.{drop-cons}
 use Rattle.octets.specs.Pick.{pick}
 use Rattle.octets.specs.Octets.{Bytes, total}
 use Rattle.packet_frames.specs.Frames.{Read, short, value, coded, withFirst, andLater, codedTimes, paddingFrom}
-use Rattle.packet_frames.specs.Code.{toldFound, Within, summed, capped}
+use Rattle.packet_frames.specs.Code.{FoundIs, ValueIn, summed, capped}
 use Rattle.packet_frames.specs.declared.Found.{Found}
 use Rattle.packet_frames.specs.declared.Found.the-variants.{Missing, Value}
 
+-- a number n was read of s, and `next` is the place after it
+pub record Got (s : Bytes) (k n next : ℕ) (t : Read ℕ) : Type 0 where
+  pub told : value n (drop next s) ≡ t
+  pub within : ValueIn s k n next
+
 -- what a call promises of its answer r, by the variant
 module _ (s : Bytes) (k : ℕ) where
-  pub missing : {r : Found} {t : Read ℕ} → r ≡ Missing → (toldFound s r ≡ t) × Within s k r → short ≡ t
-  missing e p = rw e at (p .0)
+  pub missing : {r : Found} {t : Read ℕ} → r ≡ Missing → FoundIs s k t r → short ≡ t
+  missing e p = rw e at (p .told)
 
-  pub found : {r : Found} {t : Read ℕ} {n next : ℕ} → r ≡ Value n next → (toldFound s r ≡ t) × Within s k r
-      → (value n (drop next s) ≡ t) × ((n ≤ k) × (next ≤ length s))
-  found e p = (rw e at (p .0), rw e at (p .1))
+  pub found : {r : Found} {t : Read ℕ} {n next : ℕ} → r ≡ Value n next → FoundIs s k t r → Got s k n next t
+  found e p = record { told = rw e at (p .told); within = rw e at (p .within) }
 
 -- the byte n at a place of s, and what follows it
 front : (s : Bytes) (at n : ℕ) → at < length s → n ≡ getD s at 0 → drop at s ≡ n ∷ drop (at + 1) s

@@ -1,4 +1,4 @@
--- The frames of a packet, way by way: whether they fit behind a place of s, and how many they are. Assumes nothing.
+-- The frames of a packet, way by way: whether they fit after a place of s, and how many they are. Assumes nothing.
 use mathlib.Core.Path.{_≡_, refl, sym, ap, _∙_}
 use mathlib.Core.Bool.{Bool, true, false}
 use mathlib.Core.List.{List, [], _∷_, _++_}
@@ -34,14 +34,14 @@ module _ (s : Bytes) (at m p : ℕ) where
     equal-uneven n = rw (length-drop at s, le-ltb (length s - at) p h, ne-eqb ((length s - at - p) % m) 0 n)
 
     module _ (e : (length s - at - p) % m ≡ 0) where
-      pub equal-long : 1275 < (length s - at - p) / m → short ≡ framesIn false (plain m false p (drop at s))
+      pub equal-long : frameMax < (length s - at - p) / m → short ≡ framesIn false (plain m false p (drop at s))
       equal-long l =
-          rw (length-drop at s, le-ltb (length s - at) p h, eq-eqb ((length s - at - p) % m) 0 e, lt-ltb 1275 ((length s - at - p) / m) l)
+          rw (length-drop at s, le-ltb (length s - at) p h, eq-eqb ((length s - at - p) % m) 0 e, lt-ltb frameMax ((length s - at - p) / m) l)
 
-      pub equal-fits : (length s - at - p) / m ≤ 1275 → value m (drop (length s) s) ≡ framesIn false (plain m false p (drop at s))
+      pub equal-fits : (length s - at - p) / m ≤ frameMax → value m (drop (length s) s) ≡ framesIn false (plain m false p (drop at s))
       equal-fits l =
           rw
-          (length-drop at s, le-ltb (length s - at) p h, eq-eqb ((length s - at - p) % m) 0 e, le-ltb 1275 ((length s - at - p) / m) l, drop-length s)
+          (length-drop at s, le-ltb (length s - at) p h, eq-eqb ((length s - at - p) % m) 0 e, le-ltb frameMax ((length s - at - p) / m) l, drop-length s)
           (ap (λ (k : ℕ). value k []) (sym (length-replicate m ((length s - at - p) / m))))
 
 -- lengths that were read: there are as many as were asked for
@@ -110,7 +110,7 @@ module _ (s : Bytes) (at m p : ℕ) where
   all-placed n next e f =
       f ∙ rw (← e) (sym (placed-outline (replicate m n) m (m * n) p (drop next s) (length-replicate m n) (total-replicate m n)))
 
--- m frames, the last one with what is left of `room` bytes behind n bytes for the others and the padding
+-- m frames, the last one with what is left of `room` bytes after n bytes for the others and the padding
 abbrev lastCount : ℕ → ℕ → ℕ → Read ℕ
 lastCount m n room = pick (ltb room n) short (pick (ltb frameMax (room - n)) short (value m []))
 
@@ -144,8 +144,8 @@ module _ {s : Bytes} {at m p n next : ℕ} (o : Others s at m p n next) where
   last-short h = rw (last-told, lt-ltb (length s - next) (n + p) h)
 
   module _ (h : n + p ≤ length s - next) where
-    pub last-long : 1275 < length s - next - (n + p) → short ≡ framesIn false (plain m true p (drop at s))
-    last-long l = rw (last-told, le-ltb (length s - next) (n + p) h, lt-ltb 1275 (length s - next - (n + p)) l)
+    pub last-long : frameMax < length s - next - (n + p) → short ≡ framesIn false (plain m true p (drop at s))
+    last-long l = rw (last-told, le-ltb (length s - next) (n + p) h, lt-ltb frameMax (length s - next - (n + p)) l)
 
-    pub last-fits : length s - next - (n + p) ≤ 1275 → value m (drop (length s) s) ≡ framesIn false (plain m true p (drop at s))
-    last-fits l = rw (last-told, le-ltb (length s - next) (n + p) h, le-ltb 1275 (length s - next - (n + p)) l, drop-length s)
+    pub last-fits : length s - next - (n + p) ≤ frameMax → value m (drop (length s) s) ≡ framesIn false (plain m true p (drop at s))
+    last-fits l = rw (last-told, le-ltb (length s - next) (n + p) h, le-ltb frameMax (length s - next - (n + p)) l, drop-length s)

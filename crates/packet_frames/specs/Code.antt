@@ -1,38 +1,54 @@
 -- What the functions answer, in the code's words: a number with the place that follows it, and how the frames stand.
 -- Assumes nothing.
 use Prim.Native.Nat.{ℕ, _+_, _≤_}
+use mathlib.Core.Path.{_≡_}
 use mathlib.Core.Bool.{Bool}
 use mathlib.Core.List.{List}
 use lib.Dec.{ltb}
-use lib.ListN.{length, drop}
+use lib.ListN.{length, getD, drop}
 use Rattle.octets.specs.Pick.{pick}
 use Rattle.octets.specs.Octets.{Bytes, total}
 use Rattle.packet_frames.specs.declared.Found.{Found}
 use Rattle.packet_frames.specs.declared.Found.the-variants.{Missing, Value}
 use Rattle.packet_frames.specs.declared.Layout.{Layout}
 use Rattle.packet_frames.specs.declared.Layout.the-variants.{Illegal as IllegalLayout, Frames}
-use Rattle.packet_frames.specs.Frames.{Read, short, value, R1}
-use Rattle.packet_frames.specs.Packet.{Shape, broken, shape, Parsed, breaks, frames, parseShape}
+use Rattle.packet_frames.specs.Frames.{Read, short, value, R1, paddingFrom}
+use Rattle.packet_frames.specs.Packet.{Shape, broken, shape, countedShape, shapeOf}
+use Rattle.packet_frames.specs.Packet.{Parsed, breaks, frames, parseShape}
 
 -- a number and the place after it, in s
 abbrev pub toldFound : Bytes → Found → Read ℕ
 toldFound s Missing = short
 toldFound s (Value n next) = value n (drop next s)
 
+-- a number n of at most k, and the place `next` in s
+pub record ValueIn (s : Bytes) (k n next : ℕ) : Type 0 where
+  pub most : n ≤ k
+  pub inside : next ≤ length s
+
 -- what is found is at most k, and its next place is in s
 abbrev pub Within : Bytes → ℕ → Found → Type 0
 Within s k Missing = Unit {0}
-Within s k (Value n next) = (n ≤ k) × (next ≤ length s)
+Within s k (Value n next) = ValueIn s k n next
+
+-- the answer r tells what was read of s
+pub record FoundIs (s : Bytes) (k : ℕ) (read : Read ℕ) (r : Found) : Type 0 where
+  pub told : toldFound s r ≡ read
+  pub within : Within s k r
 
 -- some lengths by their sum
 abbrev pub summed : Read (List ℕ) → Read ℕ
 summed short = short
 summed (value ns s) = value (total ns) s
 
--- a number above the bound k is as good as none
+-- a number above the bound k counts as none
 abbrev pub capped : ℕ → Read ℕ → Read ℕ
 capped k short = short
 capped k (value n s) = pick (ltb k n) short (value n s)
+
+-- the length of the padding from place `at` of s on; one that is longer than all of s counts as none
+abbrev pub paddingIn : Bytes → ℕ → Read ℕ
+paddingIn s at = capped (length s) (paddingFrom 0 (drop at s))
 
 -- how the frames stand, with no rule named, and with padding that is no longer than the packet
 pub data Plain : Type 0 where
@@ -43,14 +59,43 @@ abbrev pub plainOf : ℕ → Shape → Plain
 plainOf k (broken rule) = none
 plainOf k (shape m vary p s rule) = pick (ltb k p) none (plain m vary p s)
 
+-- those of the packet s of code 3, and of any packet s
+abbrev pub countedIn : Bytes → Plain
+countedIn s = plainOf (length s) (countedShape (getD s 0 0) (drop 1 s))
+
+abbrev pub plainIn : Bytes → Plain
+plainIn s = plainOf (length s) (shapeOf s)
+
 abbrev pub toldLayout : Bytes → Layout → Plain
 toldLayout s IllegalLayout = none
 toldLayout s (Frames m vary p at) = plain m vary p (drop at s)
 
--- between 1 and 63 frames, and the next place in s
+-- m frames, p bytes of padding, and the place `at` in s of what follows
+pub record FramesIn (s : Bytes) (m p at : ℕ) : Type 0 where
+  pub some : 1 ≤ m
+  pub few : m ≤ 63
+  pub padding : p ≤ length s
+  pub inside : at ≤ length s
+
 abbrev pub Sound : Bytes → Layout → Type 0
 Sound s IllegalLayout = Unit {0}
-Sound s (Frames m vary p at) = (1 ≤ m) × (m ≤ 63) × (p ≤ length s) × (at ≤ length s)
+Sound s (Frames m vary p at) = FramesIn s m p at
+
+-- the answer r tells how the frames of s stand
+pub record LayoutIs (s : Bytes) (stand : Plain) (r : Layout) : Type 0 where
+  pub told : toldLayout s r ≡ stand
+  pub sound : Sound s r
+
+-- m frames, or m lengths of frames, from the place `at` of s on
+pub record FramesAt (s : Bytes) (at m : ℕ) : Type 0 where
+  pub few : m ≤ 63
+  pub inside : at ≤ length s
+
+-- the same of at least one frame
+pub record SomeFramesAt (s : Bytes) (at m : ℕ) : Type 0 where
+  pub some : 1 ≤ m
+  pub few : m ≤ 63
+  pub inside : at ≤ length s
 
 -- a packet by the number of its frames
 abbrev pub outline : Parsed → Read ℕ

@@ -9,7 +9,8 @@ use lib.ListN.{length, drop, replicate}
 use Rattle.octets.specs.Pick.{pick}
 use Rattle.octets.specs.Octets.{Bytes, total}
 use Rattle.packet_toc.specs.Toc.{codeOf, frameSamples}
-use Rattle.packet_frames.specs.Frames.{Rule, R1, R2, R3, R4, R5, R6, R7, frameMax, samplesMax, Read, short, value, coded, codedTimes, paddingFrom}
+use Rattle.packet_frames.specs.Frames.{Rule, R1, R2, R3, R4, R5, R6, R7, frameMax, samplesMax}
+use Rattle.packet_frames.specs.Frames.{Read, short, value, coded, codedTimes, paddingFrom}
 
 -- how the frames of a packet stand in it: how many there are, whether each has a length of its own, the bytes of padding at
 -- the end, what follows the bytes that tell this, and the rule that the lengths obey
@@ -51,7 +52,7 @@ shapeOf (toc ∷ s) =
     (pick (eqb (codeOf toc) 2) (shape 2 true 0 s R4)
     (countedShape toc s)))
 
--- the sizes of the frames and what is left behind the packet, or the rule that it breaks
+-- the sizes of the frames and what is left after the packet, or the rule that it breaks
 pub data Parsed : Type 0 where
   breaks : Rule → Parsed
   frames : List ℕ → Bytes → Parsed

@@ -1,11 +1,16 @@
 // One Opus packet (RFC 6716, 3 and Appendix B): how its frames stand in it.
-ghost use mathlib.Core.Path.{_≡_};
 ghost use mathlib.Core.Bool.{true, false};
-ghost use Prim.Native.Nat.{_≤_};
-ghost use lib.ListN.{length, getD, drop};
-ghost use Rattle.packet_frames.specs.Frames.{coded, codedTimes, paddingFrom};
-ghost use Rattle.packet_frames.specs.Packet.{countedShape, shapeOf, parse};
-ghost use Rattle.packet_frames.specs.Code.{toldFound, Within, summed, capped, plain, plainOf, toldLayout, Sound, placedCount, framesIn, outline};
+ghost use lib.ListN.{length, drop};
+ghost use Rattle.packet_frames.specs.Frames.{frameMax, coded, codedTimes};
+ghost use Rattle.packet_frames.specs.Packet.{parse};
+ghost use Rattle.packet_frames.specs.Code.{FoundIs, LayoutIs, FramesAt, SomeFramesAt};
+ghost use Rattle.packet_frames.specs.Code.{summed, paddingIn, countedIn, plainIn, plain, placedCount, framesIn, outline};
+
+// No frame is longer (RFC 6716, 3.4, R2).
+pub const FRAME_MAX: usize = 1275;
+
+// No packet has more samples, 120 ms (RFC 6716, 3.4, R5).
+const SAMPLES_MAX: usize = 5760;
 
 // A number read at a place, and the place after it.
 pub enum Found {
@@ -27,7 +32,7 @@ enum Layout {
 
 // One coded length: a byte up to 251, or a larger one and four times the next.
 fn coded_length(s: &[u8], at: usize) -> Found
-    ensures { λ r. ⌜ (toldFound (now (s .entry)) r ≡ coded (drop at (now (s .entry)))) × Within (now (s .entry)) 1275 r ⌝ }
+    ensures { λ r. ⌜ FoundIs (now (s .entry)) frameMax (coded (drop at (now (s .entry)))) r ⌝ }
 {
     if s.len() <= at {
         return Found::Missing;
@@ -45,9 +50,8 @@ fn coded_length(s: &[u8], at: usize) -> Found
 
 // n coded lengths one after the other: their sum.
 fn coded_lengths(s: &[u8], at: usize, n: usize) -> Found
-    requires { ⌜ n ≤ 63 ⌝ }
-    requires { ⌜ at ≤ length (now s) ⌝ }
-    ensures { λ r. ⌜ (toldFound (now (s .entry)) r ≡ summed (codedTimes n (drop at (now (s .entry))))) × Within (now (s .entry)) 80325 r ⌝ }
+    requires { ⌜ FramesAt (now s) at n ⌝ }
+    ensures { λ r. ⌜ FoundIs (now (s .entry)) 80325 (summed (codedTimes n (drop at (now (s .entry))))) r ⌝ }
 {
     let mut sum: usize = 0;
     let mut place = at;
@@ -63,9 +67,9 @@ fn coded_lengths(s: &[u8], at: usize, n: usize) -> Found
     Found::Value(sum, place)
 }
 
-// The length of the padding. One that is longer than all of s is as good as none: the packet is illegal either way.
+// The length of the padding. One that is longer than all of s counts as none: the packet is illegal either way.
 fn padding_length(s: &[u8], at: usize) -> Found
-    ensures { λ r. ⌜ (toldFound (now (s .entry)) r ≡ capped (length (now (s .entry))) (paddingFrom 0 (drop at (now (s .entry))))) × Within (now (s .entry)) (length (now (s .entry))) r ⌝ }
+    ensures { λ r. ⌜ FoundIs (now (s .entry)) (length (now (s .entry))) (paddingIn (now (s .entry)) at) r ⌝ }
 {
     let mut bytes: usize = 0;
     let mut place = at;
@@ -88,7 +92,7 @@ fn padding_length(s: &[u8], at: usize) -> Found
 
 // The layout of a packet of code 3, by its count byte.
 fn counted_layout(s: &[u8]) -> Layout
-    ensures { λ r. ⌜ (toldLayout (now (s .entry)) r ≡ plainOf (length (now (s .entry))) (countedShape (getD (now (s .entry)) 0 0) (drop 1 (now (s .entry))))) × Sound (now (s .entry)) r ⌝ }
+    ensures { λ r. ⌜ LayoutIs (now (s .entry)) (countedIn (now (s .entry))) r ⌝ }
 {
     if s.len() < 2 {
         return Layout::Illegal;
@@ -100,7 +104,7 @@ fn counted_layout(s: &[u8]) -> Layout
     if count == 0 {
         return Layout::Illegal;
     }
-    if count * (samples as usize) > 5760 {
+    if count * (samples as usize) > SAMPLES_MAX {
         return Layout::Illegal;
     }
     if c / 64 % 2 != 1 {
@@ -123,7 +127,7 @@ fn counted_layout(s: &[u8]) -> Layout
 }
 
 fn layout_of(s: &[u8]) -> Layout
-    ensures { λ r. ⌜ (toldLayout (now (s .entry)) r ≡ plainOf (length (now (s .entry))) (shapeOf (now (s .entry)))) × Sound (now (s .entry)) r ⌝ }
+    ensures { λ r. ⌜ LayoutIs (now (s .entry)) (plainIn (now (s .entry))) r ⌝ }
 {
     if s.len() == 0 {
         return Layout::Illegal;
@@ -152,16 +156,12 @@ fn layout_of(s: &[u8]) -> Layout
     }
 }
 
-// Frames of `sum` bytes and the padding after them, from `at` on: the place behind them, if they fit.
+// Frames of `sum` bytes and the padding after them, from `at` on: the place after them, if they fit.
 fn placed_frames(s: &[u8], at: usize, count: usize, sum: usize, padding: usize) -> Found
-    requires { ⌜ (count ≤ 63) × (at ≤ length (now s)) ⌝ }
-    ensures { λ r. ⌜ (toldFound (now (s .entry)) r ≡ placedCount count sum padding (drop at (now (s .entry)))) × Within (now (s .entry)) 63 r ⌝ }
+    requires { ⌜ FramesAt (now s) at count ⌝ }
+    ensures { λ r. ⌜ FoundIs (now (s .entry)) 63 (placedCount count sum padding (drop at (now (s .entry)))) r ⌝ }
 {
-    let room = s.len() - at;
-    if room < padding {
-        return Found::Missing;
-    }
-    if room - padding < sum {
+    if octets::is_short(s.len() - at, padding, sum) {
         return Found::Missing;
     }
     Found::Value(count, at + sum + padding)
@@ -169,8 +169,8 @@ fn placed_frames(s: &[u8], at: usize, count: usize, sum: usize, padding: usize) 
 
 // Self-delimited: a coded length for each frame, or one for all.
 fn delimited_frames(s: &[u8], at: usize, count: usize, vary: bool, padding: usize) -> Found
-    requires { ⌜ (count ≤ 63) × (at ≤ length (now s)) ⌝ }
-    ensures { λ r. ⌜ (toldFound (now (s .entry)) r ≡ framesIn true (plain count vary padding (drop at (now (s .entry))))) × Within (now (s .entry)) 63 r ⌝ }
+    requires { ⌜ FramesAt (now s) at count ⌝ }
+    ensures { λ r. ⌜ FoundIs (now (s .entry)) 63 (framesIn true (plain count vary padding (drop at (now (s .entry))))) r ⌝ }
 {
     if vary {
         let Found::Value(sum, next) = coded_lengths(s, at, count) else {
@@ -186,20 +186,17 @@ fn delimited_frames(s: &[u8], at: usize, count: usize, vary: bool, padding: usiz
 
 // The last frame has what the others and the padding leave of the packet.
 fn varied_frames(s: &[u8], at: usize, count: usize, padding: usize) -> Found
-    requires { ⌜ (1 ≤ count) × ((count ≤ 63) × (at ≤ length (now s))) ⌝ }
-    ensures { λ r. ⌜ (toldFound (now (s .entry)) r ≡ framesIn false (plain count true padding (drop at (now (s .entry))))) × Within (now (s .entry)) 63 r ⌝ }
+    requires { ⌜ SomeFramesAt (now s) at count ⌝ }
+    ensures { λ r. ⌜ FoundIs (now (s .entry)) 63 (framesIn false (plain count true padding (drop at (now (s .entry))))) r ⌝ }
 {
     let Found::Value(sum, next) = coded_lengths(s, at, count - 1) else {
         return Found::Missing;
     };
     let room = s.len() - next;
-    if room < padding {
+    if octets::is_short(room, padding, sum) {
         return Found::Missing;
     }
-    if room - padding < sum {
-        return Found::Missing;
-    }
-    if room - padding - sum > 1275 {
+    if room - padding - sum > FRAME_MAX {
         return Found::Missing;
     }
     Found::Value(count, s.len())
@@ -207,8 +204,8 @@ fn varied_frames(s: &[u8], at: usize, count: usize, padding: usize) -> Found
 
 // Equal frames share what the padding leaves of the packet.
 fn equal_frames(s: &[u8], at: usize, count: usize, padding: usize) -> Found
-    requires { ⌜ (1 ≤ count) × ((count ≤ 63) × (at ≤ length (now s))) ⌝ }
-    ensures { λ r. ⌜ (toldFound (now (s .entry)) r ≡ framesIn false (plain count false padding (drop at (now (s .entry))))) × Within (now (s .entry)) 63 r ⌝ }
+    requires { ⌜ SomeFramesAt (now s) at count ⌝ }
+    ensures { λ r. ⌜ FoundIs (now (s .entry)) 63 (framesIn false (plain count false padding (drop at (now (s .entry))))) r ⌝ }
 {
     let room = s.len() - at;
     if room < padding {
@@ -218,15 +215,15 @@ fn equal_frames(s: &[u8], at: usize, count: usize, padding: usize) -> Found
     if bytes % count != 0 {
         return Found::Missing;
     }
-    if bytes / count > 1275 {
+    if bytes / count > FRAME_MAX {
         return Found::Missing;
     }
     Found::Value(count, s.len())
 }
 
-// How many frames a packet has, and the place behind it; or it is illegal.
+// How many frames a packet has, and the place after it; or it is illegal.
 pub fn packet_frames(s: &[u8], delimited: bool) -> Found
-    ensures { λ r. ⌜ (toldFound (now (s .entry)) r ≡ outline (parse delimited (now (s .entry)))) × Within (now (s .entry)) 63 r ⌝ }
+    ensures { λ r. ⌜ FoundIs (now (s .entry)) 63 (outline (parse delimited (now (s .entry)))) r ⌝ }
 {
     let layout = layout_of(s);
     match layout {

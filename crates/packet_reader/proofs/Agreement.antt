@@ -16,7 +16,7 @@ use Rattle.packet_frames.specs.Code.{outline}
 use Rattle.packet_reader.specs.declared.Measure.{Measure}
 use Rattle.packet_reader.specs.declared.Measure.the-variants.{Illegal, Samples}
 use Rattle.packet_reader.specs.Streams.{samplesOf, Measured, illegal, measured, withFirst, lastOf, firstAnd, lengthsOf, allAre}
-use Rattle.packet_reader.specs.Code.{lengthIn, toldMeasure, EndsIn, notLegal, notSame, same, agreed, joined}
+use Rattle.packet_reader.specs.Code.{lengthIn, MeasureIs, notLegal, notSame, same, agreed, joined}
 
 -- ---- one packet: from the number of its frames to its length
 
@@ -32,15 +32,15 @@ its-length b (frames sizes t) n d s e f =
     rw (m, r, f)
 
 -- what a call told of a packet's length
-module _ (s : Bytes) {r : Measure} {t : Read ℕ} (told : (toldMeasure s r ≡ t) × EndsIn s r) where
+module _ (s : Bytes) {r : Measure} {t : Read ℕ} (is : MeasureIs s t r) where
   pub unmeasured : r ≡ Illegal → short ≡ t
-  unmeasured e = rw e at (told .0)
+  unmeasured e = rw e at (is .told)
 
   pub length-told : {d next : ℕ} → r ≡ Samples d next → value d (drop next s) ≡ t
-  length-told e = rw e at (told .0)
+  length-told e = rw e at (is .told)
 
   pub end-told : {d next : ℕ} → r ≡ Samples d next → next ≤ length s
-  end-told e = rw e at (told .1)
+  end-told e = rw e at (is .inside)
 
 -- ---- a length in front of others
 

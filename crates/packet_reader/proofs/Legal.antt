@@ -65,13 +65,13 @@ count-is false m false p s rule h =
 
 abbrev Bounded : ℕ → Shape → Type 0
 Bounded d (broken rule) = Unit {0}
-Bounded d (shape m vary p s rule) = (1 ≤ m) × (m * d ≤ 5760)
+Bounded d (shape m vary p s rule) = (1 ≤ m) × (m * d ≤ samplesMax)
 
 bounded-either : (d : ℕ) (t : Bool) (a b : Shape) → (t ≡ true → Bounded d a) → (t ≡ false → Bounded d b) → Bounded d (pick t a b)
 bounded-either d true a b p q = p refl
 bounded-either d false a b p q = q refl
 
-padded-bounded : (d m : ℕ) (vary : Bool) (r : Read ℕ) → (1 ≤ m) × (m * d ≤ 5760) → Bounded d (padded m vary r)
+padded-bounded : (d m : ℕ) (vary : Bool) (r : Read ℕ) → (1 ≤ m) × (m * d ≤ samplesMax) → Bounded d (padded m vary r)
 padded-bounded d m vary short h = tt
 padded-bounded d m vary (value p s) h = h
 
@@ -87,7 +87,7 @@ counted-bounded toc (c ∷ s) =
     let d : ℕ = frameSamples toc in
     let q = pick (hasPadding c) (paddingFrom 0 s) (value 0 s) in
     bounded-either d (eqb m 0 || ltb samplesMax (m * d)) (broken R5) (padded m (isVariable c) q) (λ e. tt)
-    (λ e. let n = neither (eqb m 0) (ltb samplesMax (m * d)) e in padded-bounded d m (isVariable c) q (some (eqb-false m 0 (n .0)), ltb-false 5760 (m * d) (n .1)))
+    (λ e. let n = neither (eqb m 0) (ltb samplesMax (m * d)) e in padded-bounded d m (isVariable c) q (some (eqb-false m 0 (n .0)), ltb-false samplesMax (m * d) (n .1)))
 
 shape-bounded : (b : Bytes) → Bounded (frameSamples (getD b 0 0)) (shapeOf b)
 unfolding shapeOf
@@ -105,7 +105,7 @@ shape-bounded (toc ∷ s) =
 -- ---- the law
 
 -- m frames of a frame's length d
-lengths : (m d : ℕ) → FrameLength d → 1 ≤ m → m * d ≤ 5760 → (m ≤ 48) × PacketLength (m * d)
+lengths : (m d : ℕ) → FrameLength d → 1 ≤ m → m * d ≤ samplesMax → (m ≤ 48) × PacketLength (m * d)
 lengths m d f h b =
     let each : m * 120 ≤ m * d = mul-le-mul {n₁ = m} {n₂ = m} (omega arith) (f .least) in
     let first : 1 * 120 ≤ m * d = mul-le-mul h (f .least) in

@@ -6,15 +6,16 @@ use Prim.Native.Nat.{ℕ, _-_, _≤_, _<_}
 use borrow.Author.Tests.{eq-eqb, ne-eqb, lt-ltb, le-ltb}
 use Rattle.octets.specs.Pick.{pick}
 use Rattle.octets.specs.Octets.{Bytes}
-use Rattle.refusal.specs.declared.Refusal.the-variants.{IllegalPacket, MixedLengths}
+use Rattle.refusal.specs.declared.Refusal.the-variants.{BadMapping, IllegalPacket, MixedLengths}
+use Rattle.refusal.specs.Numbers.{numberOf}
 use Rattle.refusal.specs.Checks.{_when_, firstOf}
 use Rattle.refusal.specs.Told.{Told, gives, refuses, decided}
 use Rattle.packet_reader.specs.Streams.{Measured, illegal, measured, allAre, isIllegal, isMixed, firstLength, lengthsOf, readPacket}
 use Rattle.packet_reader.specs.Code.{Agreed, notLegal, notSame, same, agreed}
 
 abbrev pub verdict : Agreed → Told ℕ
-verdict notLegal = refuses 15
-verdict notSame = refuses 16
+verdict notLegal = refuses (numberOf IllegalPacket)
+verdict notSame = refuses (numberOf MixedLengths)
 verdict (same d) = gives d
 
 by-test : (d : ℕ) (t : Bool)
@@ -29,11 +30,11 @@ by-lengths illegal = refl
 by-lengths (measured d ds) = by-test d (allAre d ds)
 
 module _ (b : Bytes) (n : ℕ) where
-  pub no-streams : n ≡ 0 → readPacket b n ≡ refuses 13
+  pub no-streams : n ≡ 0 → readPacket b n ≡ refuses (numberOf BadMapping)
   unfolding readPacket firstOf
   no-streams e = rw (eq-eqb n 0 e)
 
-  pub too-many-streams : (n ≡ 0 → ⊥) → 255 < n → readPacket b n ≡ refuses 13
+  pub too-many-streams : (n ≡ 0 → ⊥) → 255 < n → readPacket b n ≡ refuses (numberOf BadMapping)
   unfolding readPacket firstOf
   too-many-streams z h = rw (ne-eqb n 0 z, lt-ltb 255 n h)
 

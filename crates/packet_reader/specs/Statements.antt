@@ -6,13 +6,14 @@ use mathlib.Core.List.{List}
 use lib.ListN.{length}
 use Rattle.octets.specs.Octets.{Bytes}
 use Rattle.refusal.specs.Told.{gives}
+use Rattle.packet_frames.specs.Frames.{samplesMax}
 use Rattle.packet_frames.specs.Packet.{frames, parse}
 use Rattle.packet_reader.specs.Streams.{samplesOf, readPacket}
 
 -- a length in samples that a packet can have
 pub record PacketLength (d : ℕ) : Type 0 where
   pub least : 120 ≤ d
-  pub most : d ≤ 5760
+  pub most : d ≤ samplesMax
   pub multiple : d % 120 ≡ 0
 
 -- a legal packet has such a length, at least one frame and at most 48

@@ -1,9 +1,10 @@
 // Audio packets of one or more streams (RFC 7845, 3; RFC 6716, 3 and Appendix B): their length in samples.
 ghost use mathlib.Core.Path.{_≡_};
-ghost use Prim.Native.Nat.{_-_, _≤_};
+ghost use Prim.Native.Nat.{_-_};
 ghost use Rattle.packet_frames.specs.Packet.{parse};
 ghost use Rattle.packet_reader.specs.Streams.{lengthsOf, readPacket, toldPacket};
-ghost use Rattle.packet_reader.specs.Code.{toldMeasure, EndsIn, lengthIn, agreed, toldLengths, joined, isSingle};
+ghost use Rattle.packet_reader.specs.Code.{MeasureIs, lengthIn, agreed, toldLengths, joined, isSingle};
+use packet_frames::FRAME_MAX;
 use packet_frames::Found;
 use refusal::Refusal;
 
@@ -12,7 +13,7 @@ pub enum PacketRead {
     Refused(Refusal),
 }
 
-// The length of a packet in samples, and the place behind it.
+// The length of a packet in samples, and the place after it.
 enum Measure {
     Illegal,
     Samples(u32, usize),
@@ -43,9 +44,9 @@ fn with_first(d: u32, later: Lengths) -> Lengths
     }
 }
 
-// A packet's length in samples, and the place behind it.
+// A packet's length in samples, and the place after it.
 fn packet_samples(s: &[u8], delimited: bool) -> Measure
-    ensures { λ r. ⌜ (toldMeasure (now (s .entry)) r ≡ lengthIn (now (s .entry)) (parse delimited (now (s .entry)))) × EndsIn (now (s .entry)) r ⌝ }
+    ensures { λ r. ⌜ MeasureIs (now (s .entry)) (lengthIn (now (s .entry)) (parse delimited (now (s .entry)))) r ⌝ }
 {
     let samples = packet_toc::frame_samples(octets::byte_at(s, 0));
     let Found::Value(count, next) = packet_frames::packet_frames(s, delimited) else {
@@ -93,7 +94,7 @@ fn is_single(bytes: &[u8]) -> bool
     ensures { λ r. ⌜ r ≡ isSingle (now (bytes .entry)) ⌝ }
 {
     let toc = octets::byte_at(bytes, 0);
-    (bytes.len() > 0) & ((bytes.len() < 1277) & (toc % 4 == 0))
+    (bytes.len() > 0) & ((bytes.len() < FRAME_MAX + 2) & (toc % 4 == 0))
 }
 
 // The same as `read_packet`. A packet of one frame is told at once, in so little code that it can stand in its caller's loop.

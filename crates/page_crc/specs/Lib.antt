@@ -1,3 +1,4 @@
 pub mod Crc
 pub mod Sliced
+pub mod Code
 pub mod Statements

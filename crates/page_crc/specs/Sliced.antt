@@ -1,6 +1,6 @@
 -- What slicing by sixteen makes of bytes, whatever the entries are: e j b is what a byte b in the register's top, followed
--- by j bytes of its block, adds to the register. With the right entries (`crc_tables`) the value is the checksum
--- (Statements.antt). Assumes nothing.
+-- by j bytes of its block, adds to the register. With the right entries (`page_crc_tables`) the value is the
+-- checksum (Statements.antt). Assumes nothing.
 use Prim.Native.Nat.{ℕ, zero, suc, _*_, _-_, _/_, _%_, _^_}
 use mathlib.Core.List.{[], _∷_}
 use lib.Bits.{bitXor}
@@ -8,6 +8,8 @@ use lib.Dec.{leb}
 use lib.ListN.{length, take, drop, replicate}
 use Rattle.octets.specs.Octets.{Bytes}
 use Rattle.octets.specs.Pick.{pick}
+use Rattle.page_layout.specs.Places.{checksumAt}
+use Rattle.page_crc.specs.Crc.{checksumEnd}
 
 -- the register moved left by k bytes, zeros coming in
 unfoldable pub moved : ℕ → ℕ → ℕ
@@ -33,6 +35,12 @@ blocks e (suc n) r s = blocks e n (blockOf e r (take (size (length s)) s)) (drop
 unfoldable pub sliced : (ℕ → ℕ → ℕ) → ℕ → Bytes → ℕ
 sliced e r s = blocks e (length s) r s
 
--- the same of a page in three runs: before the checksum field, zeros for the field, after it
+-- the register after the bytes of a page up to the end of its checksum field, zeros for the field
+unfoldable pub headSliced : (ℕ → ℕ → ℕ) → Bytes → ℕ
+headSliced e p = sliced e (sliced e 0 (take checksumAt p)) (replicate 4 0)
+
+-- the register after all bytes of a page, or of fewer bytes, in three runs: before the checksum field, zeros for what there
+-- is of the field, after it
 unfoldable pub pageSliced : (ℕ → ℕ → ℕ) → Bytes → ℕ
-pageSliced e p = sliced e (sliced e (sliced e 0 (take 22 p)) (take (length p - 22) (replicate 4 0))) (drop 26 p)
+pageSliced e p =
+    sliced e (sliced e (sliced e 0 (take checksumAt p)) (take (length p - checksumAt) (replicate 4 0))) (drop checksumEnd p)

@@ -6,7 +6,8 @@ use Prim.Native.Nat.{ℕ, _≤_, _<_, _^_}
 use lib.ListN.{length, take, drop}
 use Rattle.octets.specs.Octets.{Bytes, Octets}
 use Rattle.page_crc_tables.specs.Table.{Right}
-use Rattle.page_crc.specs.Crc.{crc, blank, pageCrc}
+use Rattle.page_layout.specs.Places.{checksumAt}
+use Rattle.page_crc.specs.Crc.{checksumEnd, crc, blank, pageCrc}
 use Rattle.page_crc.specs.Sliced.{sliced, pageSliced}
 
 -- the bytes of two lists one after the other (Register)
@@ -21,13 +22,17 @@ CrcFits = (s : Bytes) → crc 0 s < 2 ^ 32
 abbrev pub PageCrcFits : Type 0
 PageCrcFits = (p : Bytes) → pageCrc p < 2 ^ 32
 
+-- the page p with f in the place of its checksum field
+abbrev pub withField : Bytes → Bytes → Bytes
+withField p f = take checksumAt p ++ f ++ drop checksumEnd p
+
 -- what stands in the checksum field is not looked at (Page)
 abbrev pub BlankSame : Type 0
-BlankSame = (p f : Bytes) → 26 ≤ length p → length f ≡ 4 → blank (take 22 p ++ f ++ drop 26 p) ≡ blank p
+BlankSame = (p f : Bytes) → checksumEnd ≤ length p → length f ≡ 4 → blank (withField p f) ≡ blank p
 
 -- so that a page has one checksum whatever its field holds (Page)
 abbrev pub PageCrcSame : Type 0
-PageCrcSame = (p f : Bytes) → 26 ≤ length p → length f ≡ 4 → pageCrc (take 22 p ++ f ++ drop 26 p) ≡ pageCrc p
+PageCrcSame = (p f : Bytes) → checksumEnd ≤ length p → length f ≡ 4 → pageCrc (withField p f) ≡ pageCrc p
 
 -- with the right entries slicing gives the checksum (Slice)
 abbrev pub SlicedRight : Type 0

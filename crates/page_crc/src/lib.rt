@@ -4,20 +4,19 @@
 // `page_crc_tables::table::tables`; the others make them at each call, and for short inputs tables of half bytes, which take
 // longer to use but less to store.
 ghost use mathlib.Core.Path.{_≡_};
-ghost use Prim.Native.Nat.{_+_, _/_, _≤_, _<_, _^_};
-ghost use lib.Bits.{bitXor};
-ghost use lib.ListN.{length, take, drop, getD, replicate};
+ghost use Prim.Native.Nat.{_+_, _≤_, _<_};
+ghost use lib.ListN.{length, take, drop};
 ghost use Rattle.page_crc_tables.specs.Table.{entryIn, halfEntryIn};
-ghost use Rattle.page_crc.specs.Crc.{crc, pageCrc};
-ghost use Rattle.page_crc.specs.Sliced.{moved, blockOf, sliced, pageSliced};
+ghost use Rattle.page_crc.specs.Crc.{checksumEnd, crc, pageCrc};
+ghost use Rattle.page_crc.specs.Sliced.{moved, blockOf, sliced, headSliced, pageSliced};
+ghost use Rattle.page_crc.specs.Code.{Meets, HasEntry};
+use page_layout::CHECKSUM_AT;
 
 // Up to this length the tables of half bytes take less time, by measurement.
 const SHORT: usize = 640;
 
-// Where the checksum field of a page starts and ends.
-const FIELD: usize = 22;
-
-const FIELD_END: usize = 26;
+// Where the checksum field of a page ends.
+const CHECKSUM_END: usize = CHECKSUM_AT + 4;
 
 // The register moved left by k bytes.
 fn shifted(x: u32, k: usize) -> u32
@@ -35,21 +34,21 @@ fn shifted(x: u32, k: usize) -> u32
 // The byte at `at + k`, xored with what the register's top holds when the byte meets it.
 fn met(x: u32, s: &[u8], at: usize, k: usize) -> usize
     requires { ⌜ at + k < length (now s) ⌝ }
-    ensures { λ b. ⌜ (b ≡ bitXor (moved x k / 2 ^ 24) (getD (now (s .entry)) (at + k) 0)) × (b < 256) ⌝ }
+    ensures { λ b. ⌜ Meets x (now (s .entry)) at k b ⌝ }
 {
     let b = (shifted(x, k) >> 24) ^ (s[at + k] as u32);
     b as usize
 }
 
 fn entry(tables: &[u32; 4096], j: usize, b: usize) -> u32
-    requires { ⌜ (j < 16) × (b < 256) ⌝ }
+    requires { ⌜ HasEntry j b ⌝ }
     ensures { λ v. ⌜ v ≡ entryIn (now (tables .entry)) j b ⌝ }
 {
     tables[j * 256 + b]
 }
 
 fn half_entry(halves: &[u32; 512], j: usize, b: usize) -> u32
-    requires { ⌜ (j < 16) × (b < 256) ⌝ }
+    requires { ⌜ HasEntry j b ⌝ }
     ensures { λ v. ⌜ v ≡ halfEntryIn (now (halves .entry)) j b ⌝ }
 {
     halves[j * 32 + b / 16] ^ halves[j * 32 + 16 + b % 16]
@@ -148,13 +147,6 @@ fn half_update(halves: &[u32; 512], r: u32, s: &[u8]) -> u32
     x
 }
 
-// What the tables make of the bytes of s: with those of `page_crc_tables::table::tables` their checksum.
-pub fn checksum_with(tables: &[u32; 4096], s: &[u8]) -> u32
-    ensures { λ x. ⌜ x ≡ sliced (entryIn (now (tables .entry))) 0 (now (s .entry)) ⌝ }
-{
-    update(tables, 0, s)
-}
-
 // Tables are stored at the start of the function that makes them, so each kind has a function of its own.
 fn long_checksum(s: &[u8]) -> u32
     ensures { λ x. ⌜ x ≡ crc 0 (now (s .entry)) ⌝ }
@@ -180,11 +172,12 @@ pub fn checksum(s: &[u8]) -> u32
     }
 }
 
-// The register after the first 26 bytes of a page, as `update` goes through those before the field and through the field,
-// with the sizes of the blocks written out, so that the compiler needs no loop for them. Short pages wait for it.
+// The register after the bytes of a page up to the end of its checksum field, as `update` goes through those before the
+// field and through the field, with the sizes of the blocks written out, so that the compiler needs no loop for them: it
+// counts for short pages.
 fn head_checksum(tables: &[u32; 4096], page: &[u8]) -> u32
-    requires { ⌜ 26 ≤ length (now page) ⌝ }
-    ensures { λ x. ⌜ x ≡ sliced (entryIn (now (tables .entry))) (sliced (entryIn (now (tables .entry))) 0 (take 22 (now (page .entry)))) (replicate 4 0) ⌝ }
+    requires { ⌜ checksumEnd ≤ length (now page) ⌝ }
+    ensures { λ x. ⌜ x ≡ headSliced (entryIn (now (tables .entry))) (now (page .entry)) ⌝ }
 {
     let zeros = [0u8; 4];
     let first = block(tables, 0, page, 0, 16);
@@ -193,18 +186,18 @@ fn head_checksum(tables: &[u32; 4096], page: &[u8]) -> u32
     block(tables, third, &zeros, 0, 4)
 }
 
-// The same of a page, its own checksum field, bytes 22 to 25, taken as zeros. Of a shorter slice, those of the four
-// bytes that it has are taken as zeros: a slice of up to 22 bytes gives the checksum of its bytes as they are.
+// The same of a page, its own checksum field taken as zeros. Of a shorter slice, those of the field's four bytes that it
+// has are taken as zeros: a slice that ends before the field gives the checksum of its bytes as they are.
 pub fn page_checksum_with(tables: &[u32; 4096], page: &[u8]) -> u32
     ensures { λ x. ⌜ x ≡ pageSliced (entryIn (now (tables .entry))) (now (page .entry)) ⌝ }
 {
-    if page.len() >= FIELD_END {
+    if page.len() >= CHECKSUM_END {
         let head = head_checksum(tables, page);
-        return update(tables, head, &page[FIELD_END..]);
+        return update(tables, head, &page[CHECKSUM_END..]);
     }
     let zeros = [0u8; 4];
-    let a = octets::least(FIELD, page.len());
-    let b = octets::least(FIELD_END, page.len());
+    let a = octets::least(CHECKSUM_AT, page.len());
+    let b = octets::least(CHECKSUM_END, page.len());
     let head = update(tables, 0, &page[..a]);
     let field = update(tables, head, &zeros[..b - a]);
     update(tables, field, &page[b..])
@@ -222,8 +215,8 @@ fn short_page_checksum(page: &[u8]) -> u32
 {
     let halves = page_crc_tables::halves::halves();
     let zeros = [0u8; 4];
-    let a = octets::least(FIELD, page.len());
-    let b = octets::least(FIELD_END, page.len());
+    let a = octets::least(CHECKSUM_AT, page.len());
+    let b = octets::least(CHECKSUM_END, page.len());
     let head = half_update(&halves, 0, &page[..a]);
     let field = half_update(&halves, head, &zeros[..b - a]);
     half_update(&halves, field, &page[b..])

@@ -1,4 +1,4 @@
--- Where a page ends: behind its start, and inside the buffer; what is cut is no page. Assumes nothing.
+-- Where a page ends: after its start, and inside the buffer; what is cut is no page. Assumes nothing.
 use Prim.Native.Nat.{ℕ, _+_, _≤_, _<_}
 use mathlib.Core.Path.{_≡_, refl, sym}
 use mathlib.Core.Bool.{Bool, true, false, not, _&&_}
@@ -9,42 +9,43 @@ use lib.Dec.{ltb, eqb}
 use lib.ListN.{length, drop, length-drop}
 use Rattle.octets.specs.Pick.{pick}
 use Rattle.octets.specs.Octets.{Bytes}
+use Rattle.page_layout.specs.Places.{lacingAt}
 use Rattle.page_layout.specs.Page.{hasCapture, versionOf, countOf}
 use Rattle.page_size.specs.declared.Extent.the-variants.{Ends, Short, NoPage}
 use Rattle.page_size.specs.Size.{sizeOf, isOnePage}
 use Rattle.page_size.specs.Extent.{extentIn, pageExtent}
 use Rattle.page_end.specs.End.{endIn, endAt}
-use Rattle.page_end.specs.Statements.{EndInside, CutIsNoPage}
+use Rattle.page_end.specs.Statements.{Inside, EndInside, CutIsNoPage}
 
 -- nothing is not something
 pub none-some : {A X : Type 0} {x : X} → none ≡ some x → A
 none-some e = let z : _≡_ {A = ℕ} 0 1 = cc in absurd (omega arith)
 
-some-size : (s : Bytes) → 27 ≤ sizeOf s
+some-size : (s : Bytes) → lacingAt ≤ sizeOf s
 unfolding sizeOf
 some-size s = omega arith
 
 pub end-inside : EndInside
 unfolding endAt pageExtent extentIn
-end-inside b at e h = by (ltb (length s) 27) refl (not (hasCapture s)) (ltb (length s) (27 + countOf s)) (ltb (length b) (at + sizeOf s)) refl h
+end-inside b at e h = by (ltb (length s) lacingAt) refl (not (hasCapture s)) (ltb (length s) (lacingAt + countOf s)) (ltb (length b) (at + sizeOf s)) refl h
   where
     s : Bytes
     s = drop at b
 
-    by : (x : Bool) → ltb (length s) 27 ≡ x → (y z w : Bool) → ltb (length b) (at + sizeOf s) ≡ w
-        → endIn (pick x Short (pick y NoPage (pick z Short (Ends (at + sizeOf s))))) (length b) ≡ some e → (at < e) × (e ≤ length b)
+    by : (x : Bool) → ltb (length s) lacingAt ≡ x → (y z w : Bool) → ltb (length b) (at + sizeOf s) ≡ w
+        → endIn (pick x Short (pick y NoPage (pick z Short (Ends (at + sizeOf s))))) (length b) ≡ some e → Inside at e (length b)
     by true p y z w q k = none-some k
     by false p true z w q k =
         let same : length b ≡ e = cc in
-        let long : 27 ≤ length s = ltb-false (length s) 27 p in
-        (omega (arith, length-drop at b), omega arith)
+        let long : lacingAt ≤ length s = ltb-false (length s) lacingAt p in
+        omega (arith, length-drop at b)
     by false p false true w q k = none-some k
     by false p false false true q k = none-some (rw q at k)
     by false p false false false q k =
         let there : some (at + sizeOf s) ≡ some e = rw q at k in
         let same : at + sizeOf s ≡ e = cc in
         let inside : at + sizeOf s ≤ length b = ltb-false (length b) (at + sizeOf s) q in
-        (omega (arith, some-size s), omega arith)
+        omega (arith, some-size s)
 
 neither : (a b : Bool) → a && (b && false) ≡ false
 neither true true = refl
@@ -52,7 +53,7 @@ neither true false = refl
 neither false b = refl
 
 module _ (b : Bytes) (at : ℕ) where
-  short-size : 27 + countOf (drop at b) ≤ sizeOf (drop at b)
+  short-size : lacingAt + countOf (drop at b) ≤ sizeOf (drop at b)
   unfolding sizeOf
   short-size = omega arith
 
@@ -64,17 +65,17 @@ module _ (b : Bytes) (at : ℕ) where
 
 pub cut-is-no-page : CutIsNoPage
 unfolding endAt pageExtent extentIn
-cut-is-no-page b at h = by (ltb (length s) 27) refl (not (hasCapture s)) (ltb (length s) (27 + countOf s)) refl (ltb (length b) (at + sizeOf s)) refl h
+cut-is-no-page b at h = by (ltb (length s) lacingAt) refl (not (hasCapture s)) (ltb (length s) (lacingAt + countOf s)) refl (ltb (length b) (at + sizeOf s)) refl h
   where
     s : Bytes
     s = drop at b
 
-    by : (x : Bool) → ltb (length s) 27 ≡ x → (y z : Bool) → ltb (length s) (27 + countOf s) ≡ z → (w : Bool) → ltb (length b) (at + sizeOf s) ≡ w
+    by : (x : Bool) → ltb (length s) lacingAt ≡ x → (y z : Bool) → ltb (length s) (lacingAt + countOf s) ≡ z → (w : Bool) → ltb (length b) (at + sizeOf s) ≡ w
         → endIn (pick x Short (pick y NoPage (pick z Short (Ends (at + sizeOf s))))) (length b) ≡ none → isOnePage s ≡ false
-    by true p y z r w q k = no-page b at (omega (arith, ltb-true (length s) 27 p, short-size b at))
+    by true p y z r w q k = no-page b at (omega (arith, ltb-true (length s) lacingAt p, short-size b at))
     by false p true z r w q k = none-some (sym k)
-    by false p false true r w q k = no-page b at (omega (arith, ltb-true (length s) (27 + countOf s) r, short-size b at))
+    by false p false true r w q k = no-page b at (omega (arith, ltb-true (length s) (lacingAt + countOf s) r, short-size b at))
     by false p false false r true q k =
-        let long = ltb-false (length s) 27 p in
+        let long = ltb-false (length s) lacingAt p in
         no-page b at (omega (arith, ltb-true (length b) (at + sizeOf s) q, length-drop at b))
     by false p false false r false q k = none-some (sym (rw q at k))

@@ -8,9 +8,13 @@ use Rattle.octets.specs.Octets.{Bytes}
 use Rattle.page_size.specs.Size.{isOnePage}
 use Rattle.page_end.specs.End.{endAt}
 
--- the end is behind the start, and inside the buffer
+-- the end e is after the start `at`, and inside a buffer of n bytes
+pub record Inside (at e n : ℕ) : Type 0 where
+  pub after : at < e
+  pub within : e ≤ n
+
 abbrev pub EndInside : Type 0
-EndInside = (b : Bytes) (at e : ℕ) → endAt b at ≡ some e → (at < e) × (e ≤ length b)
+EndInside = (b : Bytes) (at e : ℕ) → endAt b at ≡ some e → Inside at e (length b)
 
 -- the bytes from a cut on are no whole page: fed as they stand, they are refused as no page (3), or after an end (2)
 abbrev pub CutIsNoPage : Type 0

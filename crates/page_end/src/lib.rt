@@ -3,7 +3,7 @@ ghost use mathlib.Core.Path.{_≡_};
 ghost use Rattle.page_end.specs.End.{endAt, foundEnd};
 use page_size::Extent;
 
-// The place behind the page, or the page is not whole in the buffer.
+// The place after the page, or the page is not whole in the buffer.
 pub enum End {
     At(usize),
     Cut,

@@ -1,6 +1,7 @@
 -- The pieces of a lacing list: a value of 255 goes on, a smaller one ends a packet (RFC 3533, 5 and 6; document 01,
 -- "Page and lacing"). Assumes nothing.
-use Prim.Native.Nat.{ℕ, _+_}
+use Prim.Native.Nat.{ℕ, _+_, _≤_}
+use mathlib.Core.Path.{_≡_}
 use mathlib.Core.Bool.{Bool, _&&_}
 use mathlib.Core.List.{List, [], _∷_}
 use lib.Dec.{ltb, leb, eqb}
@@ -40,6 +41,11 @@ cutFrom n (v ∷ l) body =
 
 abbrev pub cut : Bytes → Bytes → Cut
 cut l body = cutFrom 0 l body
+
+-- r is the sum of the values; a page has at most 255 of them: of a longer list the first 255 count
+pub record Summed (l : Bytes) (r : ℕ) : Type 0 where
+  pub sum : r ≡ total (take 255 l)
+  pub most : r ≤ 65025
 
 -- lacing values that a page can have, and a body of as many bytes as they say
 unfoldable pub isBody : Bytes → Bytes → Bool

@@ -1,13 +1,10 @@
 // Lacing values: 255 goes on, a smaller one ends a packet.
 ghost use mathlib.Core.Path.{_≡_};
-ghost use Prim.Native.Nat.{_≤_};
-ghost use lib.ListN.{take};
-ghost use Rattle.octets.specs.Octets.{total};
-ghost use Rattle.page_lacing.specs.Lacing.{isBody};
+ghost use Rattle.page_lacing.specs.Lacing.{Summed, isBody};
 
 // The bytes that the values tell of: their sum. A page has at most 255 values: of a longer list the first 255 count.
 pub fn sum_of(lacing: &[u8]) -> usize
-    ensures { λ r. ⌜ (r ≡ total (take 255 (now (lacing .entry)))) × (r ≤ 65025) ⌝ }
+    ensures { λ r. ⌜ Summed (now (lacing .entry)) r ⌝ }
 {
     let mut n: usize = 0;
     let end = octets::least(lacing.len(), 255);

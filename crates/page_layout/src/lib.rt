@@ -1,6 +1,29 @@
-// The parts of an Ogg page by their places (RFC 3533, 6): its fields, its lacing values, its body.
+// The parts of an Ogg page by their places (RFC 3533, 6): its fields, its lacing values, its body. These places stand here
+// and in specs/Places.antt, and everything else cites them.
 ghost use mathlib.Core.Path.{_≡_};
-ghost use Rattle.page_layout.specs.Page.{headerOf, lacingOf, bodyOf};
+ghost use Rattle.octets.specs.Octets.{Widened};
+ghost use Rattle.page_layout.specs.Page.{hasCapture, headerOf, countOf, lacingOf, bodyOf};
+
+// The capture pattern, with which every page begins.
+pub const CAPTURE: [u8; 4] = *b"OggS";
+
+pub const VERSION_AT: usize = 4;
+
+pub const FLAGS_AT: usize = 5;
+
+pub const GRANULE_AT: usize = 6;
+
+pub const SERIAL_AT: usize = 14;
+
+pub const SEQUENCE_AT: usize = 18;
+
+pub const CHECKSUM_AT: usize = 22;
+
+// The number of lacing values.
+pub const COUNT_AT: usize = 26;
+
+// The lacing values, after all fields of one length.
+pub const LACING_AT: usize = 27;
 
 // The fields of a page before its lacing values. Flags: 1 continued, 2 first, 4 last.
 pub struct PageHeader {
@@ -10,20 +33,33 @@ pub struct PageHeader {
     pub sequence: u32,
 }
 
+// Whether the bytes begin with the capture pattern.
+pub fn has_capture(s: &[u8]) -> bool
+    ensures { λ r. ⌜ r ≡ hasCapture (now (s .entry)) ⌝ }
+{
+    let capture = CAPTURE;
+    octets::begins_with(s, &capture)
+}
+
+// How many lacing values the page says that it has.
+pub fn count_of(page: &[u8]) -> usize
+    ensures { λ r. ⌜ Widened (countOf (now (page .entry))) r ⌝ }
+{
+    octets::wide(octets::byte_at(page, COUNT_AT))
+}
+
 // The lacing values of a page; of fewer bytes than they take, those that are there.
 pub fn lacing_of(page: &[u8]) -> &[u8]
     ensures { λ r. ⌜ now r ≡ lacingOf (now (page .entry)) ⌝ }
 {
-    let count = octets::wide(octets::byte_at(page, 26));
-    octets::part_of(page, 27, count)
+    octets::part_of(page, LACING_AT, count_of(page))
 }
 
 // What follows the lacing values.
 pub fn body_of(page: &[u8]) -> &[u8]
     ensures { λ r. ⌜ now r ≡ bodyOf (now (page .entry)) ⌝ }
 {
-    let count = octets::wide(octets::byte_at(page, 26));
-    octets::part_of(page, 27 + count, page.len())
+    octets::part_of(page, LACING_AT + count_of(page), page.len())
 }
 
 // The fields before the lacing values; a place past the end reads as zero.
@@ -31,9 +67,9 @@ pub fn header_of(page: &[u8]) -> PageHeader
     ensures { λ r. ⌜ r ≡ headerOf (now (page .entry)) ⌝ }
 {
     PageHeader {
-        flags: octets::byte_at(page, 5),
-        granule: number_reader::number64(page, 6),
-        serial: number_reader::number32(page, 14),
-        sequence: number_reader::number32(page, 18),
+        flags: octets::byte_at(page, FLAGS_AT),
+        granule: number_reader::number64(page, GRANULE_AT),
+        serial: number_reader::number32(page, SERIAL_AT),
+        sequence: number_reader::number32(page, SEQUENCE_AT),
     }
 }

@@ -4,6 +4,7 @@ ghost use Rattle.page_crc.specs.Crc.{pageCrc};
 ghost use Rattle.page_crc_tables.specs.Table.{entryIn};
 ghost use Rattle.page_crc.specs.Sliced.{pageSliced};
 ghost use Rattle.page_reader.specs.Reading.{readPage, toldRead};
+use page_layout::CHECKSUM_AT;
 use page_layout::PageHeader;
 use refusal::Refusal;
 
@@ -20,7 +21,7 @@ pub fn read_page_with(tables: &[u32; 4096], page: &[u8]) -> PageRead
     if !page_size::is_one_page(page) {
         return PageRead::Refused(Refusal::NotOnePage);
     }
-    if page_crc::page_checksum_with(tables, page) != number_reader::number32(page, 22) {
+    if page_crc::page_checksum_with(tables, page) != number_reader::number32(page, CHECKSUM_AT) {
         return PageRead::Refused(Refusal::WrongChecksum);
     }
     PageRead::Page(page_layout::header_of(page))
@@ -34,7 +35,7 @@ pub fn read_page(page: &[u8]) -> PageRead
     if !page_size::is_one_page(page) {
         return PageRead::Refused(Refusal::NotOnePage);
     }
-    if page_crc::page_checksum(page) != number_reader::number32(page, 22) {
+    if page_crc::page_checksum(page) != number_reader::number32(page, CHECKSUM_AT) {
         return PageRead::Refused(Refusal::WrongChecksum);
     }
     PageRead::Page(page_layout::header_of(page))

@@ -5,24 +5,25 @@ use Prim.Native.Nat.{ℕ, _+_, _≤_, _<_}
 use borrow.Author.Tests.{lt-ltb, le-ltb}
 use lib.ListN.{length}
 use Rattle.octets.specs.Octets.{Bytes}
+use Rattle.page_layout.specs.Places.{lacingAt}
 use Rattle.page_layout.specs.Page.{hasCapture, countOf}
 use Rattle.page_size.specs.declared.Extent.the-variants.{Ends, Short, NoPage}
 use Rattle.page_size.specs.Size.{sizeOf}
 use Rattle.page_size.specs.Extent.{extentIn}
 
 module _ (s : Bytes) (at : ℕ) where
-  pub short-header : length s < 27 → extentIn s at ≡ Short
+  pub short-header : length s < lacingAt → extentIn s at ≡ Short
   unfolding extentIn
-  short-header h = rw (lt-ltb (length s) 27 h)
+  short-header h = rw (lt-ltb (length s) lacingAt h)
 
-  pub no-page : 27 ≤ length s → hasCapture s ≡ false → extentIn s at ≡ NoPage
+  pub no-page : lacingAt ≤ length s → hasCapture s ≡ false → extentIn s at ≡ NoPage
   unfolding extentIn
-  no-page h n = rw (le-ltb (length s) 27 h, n)
+  no-page h n = rw (le-ltb (length s) lacingAt h, n)
 
-  pub short-lacing : 27 ≤ length s → hasCapture s ≡ true → length s < 27 + countOf s → extentIn s at ≡ Short
+  pub short-lacing : lacingAt ≤ length s → hasCapture s ≡ true → length s < lacingAt + countOf s → extentIn s at ≡ Short
   unfolding extentIn
-  short-lacing h y l = rw (le-ltb (length s) 27 h, y, lt-ltb (length s) (27 + countOf s) l)
+  short-lacing h y l = rw (le-ltb (length s) lacingAt h, y, lt-ltb (length s) (lacingAt + countOf s) l)
 
-  pub ends-at : 27 ≤ length s → hasCapture s ≡ true → 27 + countOf s ≤ length s → extentIn s at ≡ Ends (at + sizeOf s)
+  pub ends-at : lacingAt ≤ length s → hasCapture s ≡ true → lacingAt + countOf s ≤ length s → extentIn s at ≡ Ends (at + sizeOf s)
   unfolding extentIn
-  ends-at h y l = rw (le-ltb (length s) 27 h, y, le-ltb (length s) (27 + countOf s) l)
+  ends-at h y l = rw (le-ltb (length s) lacingAt h, y, le-ltb (length s) (lacingAt + countOf s) l)

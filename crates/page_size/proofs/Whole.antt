@@ -4,20 +4,17 @@ use mathlib.Core.Bool.{true, _&&_}
 use native.Mathlib.Omega.{arith}
 use borrow.Author.Tests.{eqb-true}
 use lib.Dec.{eqb}
-use lib.ListN.{length, getD, length-take, length-drop}
+use lib.ListN.{length, take, length-take, length-drop}
 use Rattle.octets.specs.Octets.{Bytes, total}
 use Rattle.octets.proofs.Tests.{both, equal-and}
+use Rattle.octets.proofs.Beginnings.{begins-take}
+use Rattle.page_layout.specs.Places.{capturePattern}
 use Rattle.page_layout.specs.Page.{hasCapture, versionOf, countOf, lacingOf, bodyOf}
 use Rattle.page_size.specs.Size.{sizeOf, isOnePage}
 
-pub capture : (p : Bytes) → hasCapture p ≡ true
-    → (getD p 0 0 ≡ 0x4f) × ((getD p 1 0 ≡ 0x67) × ((getD p 2 0 ≡ 0x67) × (getD p 3 0 ≡ 0x53)))
+pub capture : (p : Bytes) → hasCapture p ≡ true → take (length capturePattern) p ≡ capturePattern
 unfolding hasCapture
-capture p h =
-    let a = equal-and _ _ _ h in
-    let b = equal-and _ _ _ (a .1) in
-    let c = equal-and _ _ _ (b .1) in
-    (a .0, (b .0, (c .0, eqb-true _ _ (c .1))))
+capture p h = begins-take capturePattern p h
 
 -- the bytes of a whole page
 module _ (p : Bytes) (one : isOnePage p ≡ true) where

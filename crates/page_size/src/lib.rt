@@ -1,9 +1,10 @@
 // How long an Ogg page is by its lacing values (RFC 3533, 6): where one would end, and whether bytes are exactly one.
 ghost use mathlib.Core.Path.{_≡_};
-ghost use Prim.Native.Nat.{_≤_, _<_, _^_};
-ghost use Rattle.page_layout.specs.Page.{hasCapture};
-ghost use Rattle.page_size.specs.Size.{sizeOf, isOnePage};
+ghost use Prim.Native.Nat.{_<_, _^_};
+ghost use Rattle.page_size.specs.Size.{Sized, isOnePage};
 ghost use Rattle.page_size.specs.Extent.{extentIn, pageExtent};
+use page_layout::LACING_AT;
+use page_layout::VERSION_AT;
 
 // Where a page would end: at a place of the buffer or past it; not to be told yet, since its header or its lacing values
 // are not all there; or nowhere, since no page starts here.
@@ -13,27 +14,11 @@ pub enum Extent {
     NoPage,
 }
 
-// Whether the bytes begin with "OggS".
-fn has_capture(s: &[u8]) -> bool
-    ensures { λ r. ⌜ r ≡ hasCapture (now (s .entry)) ⌝ }
-{
-    if octets::byte_at(s, 0) != 0x4f {
-        return false;
-    }
-    if octets::byte_at(s, 1) != 0x67 {
-        return false;
-    }
-    if octets::byte_at(s, 2) != 0x67 {
-        return false;
-    }
-    octets::byte_at(s, 3) == 0x53
-}
-
 // How long the page is by its lacing values.
 fn size_of(page: &[u8]) -> usize
-    ensures { λ r. ⌜ (r ≡ sizeOf (now (page .entry))) × (r ≤ 65307) ⌝ }
+    ensures { λ r. ⌜ Sized (now (page .entry)) r ⌝ }
 {
-    27 + octets::wide(octets::byte_at(page, 26)) + page_lacing::sum_of(page_layout::lacing_of(page))
+    LACING_AT + page_layout::count_of(page) + page_lacing::sum_of(page_layout::lacing_of(page))
 }
 
 // Where the page would end that s, the bytes from place `at` of a buffer on, begins with.
@@ -41,13 +26,13 @@ fn extent_in(s: &[u8], at: usize) -> Extent
     requires { ⌜ at < 2 ^ 63 ⌝ }
     ensures { λ r. ⌜ r ≡ extentIn (now (s .entry)) at ⌝ }
 {
-    if s.len() < 27 {
+    if s.len() < LACING_AT {
         return Extent::Short;
     }
-    if !has_capture(s) {
+    if !page_layout::has_capture(s) {
         return Extent::NoPage;
     }
-    if s.len() < 27 + octets::wide(octets::byte_at(s, 26)) {
+    if s.len() < LACING_AT + page_layout::count_of(s) {
         return Extent::Short;
     }
     Extent::Ends(at + size_of(s))
@@ -67,10 +52,10 @@ pub fn page_extent(buffer: &[u8], at: usize) -> Extent
 pub fn is_one_page(page: &[u8]) -> bool
     ensures { λ r. ⌜ r ≡ isOnePage (now (page .entry)) ⌝ }
 {
-    if !has_capture(page) {
+    if !page_layout::has_capture(page) {
         return false;
     }
-    if octets::byte_at(page, 4) != 0 {
+    if octets::byte_at(page, VERSION_AT) != 0 {
         return false;
     }
     page.len() == size_of(page)

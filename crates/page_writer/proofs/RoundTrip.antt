@@ -17,7 +17,9 @@ use Rattle.refusal.specs.Told.{gives}
 use Rattle.page_crc.specs.Crc.{pageCrc}
 use Rattle.page_crc.proofs.Page.{page-crc-fits}
 use Rattle.page_layout.specs.declared.PageHeader.{PageHeader}
+use Rattle.page_layout.specs.Places.{capturePattern, versionAt, flagsAt, granuleAt, serialAt, sequenceAt, checksumAt, countAt, lacingAt}
 use Rattle.page_layout.specs.Page.{headerOf, checksumOf, countOf, lacingOf, bodyOf}
+use Rattle.page_lacing.proofs.Bodies.{is-body, body-sum}
 use Rattle.page_size.specs.Size.{sizeOf, isOnePage}
 use Rattle.page_reader.specs.Reading.{readChecks, readPage}
 use Rattle.page_writer.specs.Writing.{pageBytes, pageSize, writeChecks, writeTold, writeOut}
@@ -25,7 +27,7 @@ use Rattle.page_writer.specs.Statements.{Fit, ReadsAs, ReadsBack, Writes
 use Rattle.page_size.proofs.Whole.{capture, captured, version-whole, whole, lacing-length, body-length}
 use Rattle.page_reader.proofs.Reading.{right-page}
 use Rattle.page_writer.proofs.Writing.{writable}
-use Rattle.page_writer.proofs.Written.{page, page-length, page-capture, page-version, page-count, page-lacing, page-body, page-header, page-checksum, page-crc, sealed-page}
+use Rattle.page_writer.proofs.Written.{page, page-length, page-capture, page-version, page-count, page-lacing, page-body, page-header, page-checksum, page-crc, page-with-checksum}
 
 -- ---- reading what was written
 
@@ -42,8 +44,7 @@ sound h l b out n e =
     let p = passed _ _ _ clear in
     let q = passed _ _ _ (p .1) in
     let r = passed _ _ _ (q .1) in
-    let s = passed _ _ _ (r .1) in
-    record { clear = clear; sum = eqb-true _ _ (not-false _ (q .0)); room = ltb-false _ _ (s .0) }
+    record { clear = clear; sum = body-sum l b (not-false _ (p .0)); room = ltb-false _ _ (r .0) }
 
 -- a page with its own checksum is read
 module _ (h : PageHeader) (x : ℕ) (l b : Bytes) (sum : total l ≡ length b) where
@@ -68,7 +69,7 @@ reads-back h l b out f e =
     let s = sound h l b out _ e in
     let x : ℕ = pageCrc (page h 0 l b) in
     let n : length (page h x l b) ≡ pageSize l b = page-length h x l b in
-    rw (s .clear, sealed-page h l b, copied-fits out 0 (page h x l b) (omega arith), ← n, take-length, take-append-seam)
+    rw (s .clear, page-with-checksum h l b, copied-fits out 0 (page h x l b) (omega arith), ← n, take-length, take-append-seam)
     (page-reads h x l b (s .sum) f (page-crc h x l b) (page-crc-fits (page h 0 l b)))
 
 -- ---- writing what was read
@@ -82,22 +83,20 @@ module _ (p : Bytes) (one : isOnePage p ≡ true) where
   rebuilt : Octets p → page (headerOf p) (checksumOf p) (lacingOf p) (bodyOf p) ≡ p
   unfolding page headerOf lacingOf bodyOf
   rebuilt o =
-      let c = capture p (captured p one .0) in
-      let size : 27 ≤ length p = omega (arith, size-same) in
-      let end : lacingOf p ++ bodyOf p ≡ drop 27 p = rw (← drop-drop (countOf p) 27 p) (take-append-drop (countOf p) (drop 27 p)) in
+      let begins : capturePattern ++ drop 4 p ≡ p =
+      (ap (λ (s : Bytes). s ++ drop 4 p) (sym (capture p (captured p one .0))) ∙ take-append-drop 4 p) in
+      let size : lacingAt ≤ length p = omega (arith, size-same) in
+      let end : lacingOf p ++ bodyOf p ≡ drop lacingAt p = rw (← drop-drop (countOf p) lacingAt p) (take-append-drop (countOf p) (drop lacingAt p)) in
       rw (
         end,
-        byte 26 (length (lacingOf p)) p (sym (lacing-length p one)) (omega arith),
-        field 4 22 p o (omega arith),
-        field 4 18 p o (omega arith),
-        field 4 14 p o (omega arith),
-        field 8 6 p o (omega arith),
-        byte 5 (getD p 5 0) p refl (omega arith),
-        byte 4 0 p (version-whole p one .0) (omega arith),
-        byte 3 0x53 p (c .1 .1 .1) (omega arith),
-        byte 2 0x67 p (c .1 .1 .0) (omega arith),
-        byte 1 0x67 p (c .1 .0) (omega arith),
-        byte 0 0x4f p (c .0) (omega arith),
+        byte countAt (length (lacingOf p)) p (sym (lacing-length p one)) (omega arith),
+        field 4 checksumAt p o (omega arith),
+        field 4 sequenceAt p o (omega arith),
+        field 4 serialAt p o (omega arith),
+        field 8 granuleAt p o (omega arith),
+        byte flagsAt (getD p flagsAt 0) p refl (omega arith),
+        byte versionAt 0 p (version-whole p one .0) (omega arith),
+        begins,
       )
 
 pub writes-back : WritesBack
@@ -111,8 +110,8 @@ writes-back p out h o e low room =
     let b : Bytes = bodyOf p in
     let again : page h (checksumOf p) l b ≡ p = rw (r .1) at (rebuilt p one o) in
     let crc : pageCrc (page h 0 l b) ≡ checksumOf p = sym (page-crc h (checksumOf p) l b) ∙ ap pageCrc again ∙ ok in
-    let same : pageBytes h l b ≡ p = sealed-page h l b ∙ rw crc again in
+    let same : pageBytes h l b ≡ p = page-with-checksum h l b ∙ rw crc again in
     let size : pageSize l b ≡ length p = size-same p one in
     let clear : firstOf (writeChecks h l b (length out)) ≡ none =
-    (writable h l b (length out) (omega (arith, o .below 26, lacing-length p one)) (sym (body-length p one)) low (omega arith)) in
-    (rw clear (ap gives size), rw (clear, same))
+    (writable h l b (length out) (is-body l b (omega (arith, o .below countAt, lacing-length p one)) (sym (body-length p one))) low (omega arith)) in
+    record { told = rw clear (ap gives size); output = rw (clear, same) }

@@ -1,50 +1,43 @@
 -- The ways of writing a page, by its tests, and what the copies make of the output. Assumes nothing.
 use mathlib.Core.Path.{_≡_, refl, sym, ap, _∙_}
+use mathlib.Core.Bool.{true, false}
 use mathlib.Core.List.{[], _++_}
 use mathlib.Core.Option.{none, some}
 use Prim.Native.Nat.{ℕ, _+_, _≤_, _<_}
 use native.Mathlib.Omega.{arith}
-use borrow.Author.Tests.{lt-ltb, le-ltb, eq-eqb, ne-eqb}
+use borrow.Author.Tests.{lt-ltb, le-ltb}
 use lib.ListN.{length, take, drop, length-append}
-use lib.Seq.{take-all, take-at, drop-at}
-use Rattle.octets.specs.Octets.{Bytes, total, copied}
+use lib.Seq.{take-at, drop-at}
+use Rattle.octets.specs.Octets.{Bytes, copied}
 use Rattle.octets.specs.Numbers.{octets}
 use Rattle.octets.proofs.Copying.{copied-next, length-copied}
 use Rattle.refusal.specs.declared.Refusal.{Refusal}
 use Rattle.refusal.specs.declared.Refusal.the-variants.{ShortOutput, UnfitFields}
 use Rattle.refusal.specs.Checks.{firstOf}
 use Rattle.page_crc.specs.Crc.{pageCrc}
+use Rattle.page_lacing.specs.Lacing.{isBody}
 use Rattle.page_layout.specs.declared.PageHeader.{PageHeader}
+use Rattle.page_layout.specs.Places.{checksumAt, lacingAt}
 use Rattle.page_writer.specs.declared.PageWritten.the-variants.{Bytes as Written, Refused}
-use Rattle.page_writer.specs.Writing.{sealed, startOf, pageBytes, pageSize, writeChecks, writeTold, writeOut, Wrote}
-
--- of at most 255 values all count
-pub all-count : (l : Bytes) → length l ≤ 255 → total (take 255 l) ≡ total l
-all-count l h = ap total (take-all 255 l h)
+use Rattle.page_writer.specs.Writing.{withChecksum, startOf, pageBytes, pageSize, writeChecks, writeTold, writeOut, Wrote}
 
 module _ (h : PageHeader) (l b : Bytes) where
   module _ (n : ℕ) where
-    pub too-many : 255 < length l → firstOf (writeChecks h l b n) ≡ some UnfitFields
+    pub no-body : isBody l b ≡ false → firstOf (writeChecks h l b n) ≡ some UnfitFields
     unfolding firstOf
-    too-many m = rw (lt-ltb 255 (length l) m)
+    no-body e = rw e
 
-    pub wrong-sum : length l ≤ 255 → (total l ≡ length b → ⊥) → firstOf (writeChecks h l b n) ≡ some UnfitFields
+    pub wrong-flags : isBody l b ≡ true → 7 < h .flags → firstOf (writeChecks h l b n) ≡ some UnfitFields
     unfolding firstOf
-    wrong-sum m s = rw (le-ltb 255 (length l) m, ne-eqb (total l) (length b) s)
+    wrong-flags e f = rw (e, lt-ltb 7 (h .flags) f)
 
-    pub wrong-flags : length l ≤ 255 → total l ≡ length b → 7 < h .flags → firstOf (writeChecks h l b n) ≡ some UnfitFields
+    pub short-output : isBody l b ≡ true → h .flags ≤ 7 → n < pageSize l b → firstOf (writeChecks h l b n) ≡ some ShortOutput
     unfolding firstOf
-    wrong-flags m s f = rw (le-ltb 255 (length l) m, eq-eqb (total l) (length b) s, lt-ltb 7 (h .flags) f)
+    short-output e f r = rw (e, le-ltb 7 (h .flags) f, lt-ltb n (pageSize l b) r)
 
-    pub short-output : length l ≤ 255 → total l ≡ length b → h .flags ≤ 7 → n < pageSize l b → firstOf (writeChecks h l b n) ≡ some ShortOutput
+    pub writable : isBody l b ≡ true → h .flags ≤ 7 → pageSize l b ≤ n → firstOf (writeChecks h l b n) ≡ none
     unfolding firstOf
-    short-output m s f r =
-        rw (le-ltb 255 (length l) m, eq-eqb (total l) (length b) s, le-ltb 7 (h .flags) f, lt-ltb n (pageSize l b) r)
-
-    pub writable : length l ≤ 255 → total l ≡ length b → h .flags ≤ 7 → pageSize l b ≤ n → firstOf (writeChecks h l b n) ≡ none
-    unfolding firstOf
-    writable m s f r =
-        rw (le-ltb 255 (length l) m, eq-eqb (total l) (length b) s, le-ltb 7 (h .flags) f, le-ltb n (pageSize l b) r)
+    writable e f r = rw (e, le-ltb 7 (h .flags) f, le-ltb n (pageSize l b) r)
 
   module _ (out : Bytes) where
     pub refused : (w : Refusal) → firstOf (writeChecks h l b (length out)) ≡ some w → Wrote h l b out (Refused w) out
@@ -55,26 +48,26 @@ module _ (h : PageHeader) (l b : Bytes) where
     unfolding writeTold writeOut
     wrote e = record { told = rw e; output = rw e }
 
-pub length-start : (h : PageHeader) (n : ℕ) → length (startOf h n) ≡ 27
+pub length-start : (h : PageHeader) (n : ℕ) → length (startOf h n) ≡ lacingAt
 unfolding startOf octets
 length-start h n = refl
 
-pub length-sealed : (p : Bytes) → length (sealed p) ≡ length p
-unfolding sealed
-length-sealed p = length-copied p 22 (octets 4 (pageCrc p))
+pub length-with-checksum : (p : Bytes) → length (withChecksum p) ≡ length p
+unfolding withChecksum
+length-with-checksum p = length-copied p checksumAt (octets 4 (pageCrc p))
 
 -- three copies one after the other
-pub three : (s l b out : Bytes) → length s ≡ 27 → pageSize l b ≤ length out
-    → copied (copied (copied out 0 s) 27 l) (27 + length l) b ≡ (s ++ l ++ b) ++ drop (pageSize l b) out
+pub three : (s l b out : Bytes) → length s ≡ lacingAt → pageSize l b ≤ length out
+    → copied (copied (copied out 0 s) lacingAt l) (lacingAt + length l) b ≡ (s ++ l ++ b) ++ drop (pageSize l b) out
 three s l b out e room =
-    let sl : length (s ++ l) ≡ 27 + length l = length-append s l ∙ ap (λ (n : ℕ). n + length l) e in
+    let sl : length (s ++ l) ≡ lacingAt + length l = length-append s l ∙ ap (λ (n : ℕ). n + length l) e in
     let slb : length (s ++ l ++ b) ≡ pageSize l b = length-append (s ++ l) b ∙ ap (λ (n : ℕ). n + length b) sl in
     let one = copied-next out [] s (omega arith) in
     let two = copied-next out s l (omega arith) in
     let last = copied-next out (s ++ l) b (omega arith) in
-    ap (λ (o : Bytes). copied (copied o 27 l) (27 + length l) b) one
-    ∙ ap (λ (n : ℕ). copied (copied (s ++ drop (length s) out) n l) (27 + length l) b) (sym e)
-    ∙ ap (λ (o : Bytes). copied o (27 + length l) b) two
+    ap (λ (o : Bytes). copied (copied o lacingAt l) (lacingAt + length l) b) one
+    ∙ ap (λ (n : ℕ). copied (copied (s ++ drop (length s) out) n l) (lacingAt + length l) b) (sym e)
+    ∙ ap (λ (o : Bytes). copied o (lacingAt + length l) b) two
     ∙ ap (λ (n : ℕ). copied ((s ++ l) ++ drop (length (s ++ l)) out) n b) (sym sl)
     ∙ last
     ∙ ap (λ (n : ℕ). (s ++ l ++ b) ++ drop n out) slb
@@ -83,9 +76,9 @@ three s l b out e room =
 pub whole : (p out : Bytes) → length p ≤ length out → p ++ drop (length p) out ≡ copied out 0 p
 whole p out room = sym (copied-next out [] p (omega arith))
 
--- the output after the three copies and the checksum: a, d and f are the output after each copy, e its first bytes sealed
+-- the output after the three copies and the checksum: a, d and f are the output after each copy, e its first bytes with their checksum
 pub put : (h : PageHeader) (l b out s a d f e : Bytes) → pageSize l b ≤ length out → s ≡ startOf h (length l)
-    → a ≡ copied out 0 s → d ≡ copied a 27 l → f ≡ copied d (27 + length l) b → e ≡ sealed (take (pageSize l b) f)
+    → a ≡ copied out 0 s → d ≡ copied a lacingAt l → f ≡ copied d (lacingAt + length l) b → e ≡ withChecksum (take (pageSize l b) f)
     → e ++ drop (pageSize l b) f ≡ copied out 0 (pageBytes h l b)
 unfolding pageBytes
 put h l b out s a d f e room hs ha hd hf he =
@@ -94,6 +87,6 @@ put h l b out s a d f e room hs ha hd hf he =
     let size : length u ≡ n =
     (length-append (startOf h (length l) ++ l) b ∙ ap (λ (k : ℕ). k + length b) (length-append (startOf h (length l)) l ∙ ap (λ (k : ℕ). k + length l) (length-start h (length l)))) in
     let all : f ≡ u ++ drop n out = hf ∙ rw (hd, ha, hs) (three (startOf h (length l)) l b out (length-start h (length l)) room) in
-    let front : e ≡ sealed u = he ∙ ap sealed (ap (take n) all ∙ take-at u (drop n out) n size) in
-    let back : drop n f ≡ drop (length (sealed u)) out = ap (drop n) all ∙ drop-at u (drop n out) n size ∙ ap (λ (k : ℕ). drop k out) (sym (length-sealed u ∙ size)) in
-    rw (front, back) (whole (sealed u) out (omega (arith, length-sealed u)))
+    let front : e ≡ withChecksum u = he ∙ ap withChecksum (ap (take n) all ∙ take-at u (drop n out) n size) in
+    let back : drop n f ≡ drop (length (withChecksum u)) out = ap (drop n) all ∙ drop-at u (drop n out) n size ∙ ap (λ (k : ℕ). drop k out) (sym (length-with-checksum u ∙ size)) in
+    rw (front, back) (whole (withChecksum u) out (omega (arith, length-with-checksum u)))

@@ -10,18 +10,20 @@ use Rattle.octets.specs.Octets.{Bytes}
 use Rattle.octets.specs.Numbers.{octets, number}
 use Rattle.octets.proofs.Numbers.{length-octets, value-octets}
 use Rattle.octets.proofs.Copying.{copied-fits}
+use Rattle.octets.proofs.Beginnings.{begins-append}
 use Rattle.page_crc.specs.Crc.{pageCrc}
 use Rattle.page_crc.proofs.Page.{page-crc-same}
 use Rattle.page_layout.specs.declared.PageHeader.{PageHeader}
+use Rattle.page_layout.specs.Places.{capturePattern, checksumAt, lacingAt}
 use Rattle.page_layout.specs.Page.{hasCapture, versionOf, headerOf, checksumOf, countOf, lacingOf, bodyOf}
-use Rattle.page_writer.specs.Writing.{startOf, sealed, pageBytes, pageSize}
+use Rattle.page_writer.specs.Writing.{startOf, withChecksum, pageBytes, pageSize}
 use Rattle.page_writer.specs.Statements.{Fit}
 
 -- the page of these fields, lacing values and body, with the checksum x
 unfoldable pub page : PageHeader → ℕ → Bytes → Bytes → Bytes
 page h x l b =
-    0x4f ∷ 0x67 ∷ 0x67 ∷ 0x53 ∷ 0 ∷ h .flags
-    ∷ (octets 8 (h .granule) ++ (octets 4 (h .serial) ++ (octets 4 (h .sequence) ++ (octets 4 x ++ (length l ∷ (l ++ b))))))
+    capturePattern ++ (0 ∷ h .flags
+    ∷ (octets 8 (h .granule) ++ (octets 4 (h .serial) ++ (octets 4 (h .sequence) ++ (octets 4 x ++ (length l ∷ (l ++ b)))))))
 
 -- a header by its fields
 same : (h : PageHeader) {g s q : ℕ} → g ≡ h .granule → s ≡ h .serial → q ≡ h .sequence
@@ -35,7 +37,7 @@ module _ (h : PageHeader) (x : ℕ) (l b : Bytes) where
 
   pub page-capture : hasCapture (page h x l b) ≡ true
   unfolding page hasCapture
-  page-capture = refl
+  page-capture = begins-append capturePattern _
 
   pub page-version : versionOf (page h x l b) ≡ 0
   unfolding page
@@ -51,7 +53,7 @@ module _ (h : PageHeader) (x : ℕ) (l b : Bytes) where
 
   pub page-body : bodyOf (page h x l b) ≡ b
   unfolding page octets bodyOf
-  page-body = sym (drop-drop (length l) 27 (page h x l b)) ∙ drop-append-seam l b
+  page-body = sym (drop-drop (length l) lacingAt (page h x l b)) ∙ drop-append-seam l b
 
   pub page-header : Fit h → headerOf (page h x l b) ≡ h
   unfolding page octets headerOf number
@@ -67,6 +69,6 @@ module _ (h : PageHeader) (x : ℕ) (l b : Bytes) where
   unfolding page octets
   page-crc = page-crc-same (page h 0 l b) (octets 4 x) (omega arith) (length-octets 4 x)
 
-pub sealed-page : (h : PageHeader) (l b : Bytes) → pageBytes h l b ≡ page h (pageCrc (page h 0 l b)) l b
-unfolding page octets pageBytes startOf sealed
-sealed-page h l b = copied-fits (page h 0 l b) 22 (octets 4 (pageCrc (page h 0 l b))) (omega arith)
+pub page-with-checksum : (h : PageHeader) (l b : Bytes) → pageBytes h l b ≡ page h (pageCrc (page h 0 l b)) l b
+unfolding page octets pageBytes startOf withChecksum
+page-with-checksum h l b = copied-fits (page h 0 l b) checksumAt (octets 4 (pageCrc (page h 0 l b))) (omega arith)

@@ -29,8 +29,13 @@ ReadsBack =
     (h : PageHeader) (l b out : Bytes) → Fit h → writeTold h l b out ≡ gives (pageSize l b)
     → ReadsAs (take (pageSize l b) (writeOut h l b out)) h l b
 
+-- the page of the fields h with the lacing values and the body of p is written to `out` as the bytes p
+pub record WritesAs (h : PageHeader) (p out : Bytes) : Type 0 where
+  pub told : writeTold h (lacingOf p) (bodyOf p) out ≡ gives (length p)
+  pub output : writeOut h (lacingOf p) (bodyOf p) out ≡ copied out 0 p
+
 -- writing what was read gives the same bytes, for flags at most 7: the writer takes no others
 abbrev pub WritesBack : Type 0
 WritesBack =
     (p out : Bytes) (h : PageHeader) → Octets p → readPage pageCrc p ≡ gives h → h .flags ≤ 7 → length p ≤ length out
-    → (writeTold h (lacingOf p) (bodyOf p) out ≡ gives (length p)) × (writeOut h (lacingOf p) (bodyOf p) out ≡ copied out 0 p)
+    → WritesAs h p out

@@ -1,13 +1,13 @@
--- Writing a page (document 01, refusals 23 and 22, "Page and lacing"; RFC 3533, 6), and a page's checksum made anew.
+-- Writing a page (document 01, refusals 23 and 22, "Page and lacing"; RFC 3533, 6), and a page's checksum computed again.
 -- Assumes nothing.
 use Prim.Native.Nat.{ℕ, _+_}
 use mathlib.Core.Path.{_≡_}
 use mathlib.Core.Bool.{not}
 use mathlib.Core.List.{List, [], _∷_, _++_}
 use mathlib.Core.Option.{Option, none, some}
-use lib.Dec.{ltb, eqb}
+use lib.Dec.{ltb}
 use lib.ListN.{length}
-use Rattle.octets.specs.Octets.{Bytes, total, copied}
+use Rattle.octets.specs.Octets.{Bytes, copied}
 use Rattle.octets.specs.Numbers.{octets}
 use Rattle.refusal.specs.declared.Refusal.{Refusal}
 use Rattle.refusal.specs.declared.Refusal.the-variants.{ShortOutput, UnfitFields}
@@ -15,32 +15,33 @@ use Rattle.refusal.specs.Checks.{Check, _when_, firstOf}
 use Rattle.refusal.specs.Told.{Told, gives, refuses, decided}
 use Rattle.refusal.specs.Numbers.{numberOf}
 use Rattle.page_crc.specs.Crc.{pageCrc}
+use Rattle.page_lacing.specs.Lacing.{isBody}
 use Rattle.page_layout.specs.declared.PageHeader.{PageHeader}
+use Rattle.page_layout.specs.Places.{capturePattern, checksumAt, lacingAt}
 use Rattle.page_writer.specs.declared.PageWritten.{PageWritten}
 use Rattle.page_writer.specs.declared.PageWritten.the-variants.{Bytes as Written, Refused}
 
 -- the page's own checksum put into its field; bytes that end before the field stay
-unfoldable pub sealed : Bytes → Bytes
-sealed p = copied p 22 (octets 4 (pageCrc p))
+unfoldable pub withChecksum : Bytes → Bytes
+withChecksum p = copied p checksumAt (octets 4 (pageCrc p))
 
--- the 27 bytes before the lacing values, the checksum zero
+-- the bytes before the lacing values, the checksum zero
 unfoldable pub startOf : PageHeader → ℕ → Bytes
 startOf h count =
-    (0x4f ∷ 0x67 ∷ 0x67 ∷ 0x53 ∷ 0 ∷ h .flags ∷ [])
+    capturePattern ++ (0 ∷ h .flags ∷ [])
     ++ octets 8 (h .granule) ++ octets 4 (h .serial) ++ octets 4 (h .sequence) ++ octets 4 0 ++ (count ∷ [])
 
 -- the page of these fields, lacing values and body
 unfoldable pub pageBytes : PageHeader → Bytes → Bytes → Bytes
-pageBytes h lacing body = sealed (startOf h (length lacing) ++ lacing ++ body)
+pageBytes h lacing body = withChecksum (startOf h (length lacing) ++ lacing ++ body)
 
 abbrev pub pageSize : Bytes → Bytes → ℕ
-pageSize lacing body = 27 + length lacing + length body
+pageSize lacing body = lacingAt + length lacing + length body
 
 -- an output of n bytes
 abbrev pub writeChecks : PageHeader → Bytes → Bytes → ℕ → List Check
 writeChecks h lacing body n =
-    UnfitFields when ltb 255 (length lacing)
-    ∷ UnfitFields when not (eqb (total lacing) (length body))
+    UnfitFields when not (isBody lacing body)
     ∷ UnfitFields when ltb 7 (h .flags)
     ∷ ShortOutput when ltb n (pageSize lacing body)
     ∷ []

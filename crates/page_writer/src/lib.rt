@@ -1,9 +1,12 @@
-// Writing an Ogg page (RFC 3533), and making the checksum of a page anew.
+// Writing an Ogg page (RFC 3533), and computing the checksum of a page again.
 ghost use mathlib.Core.Path.{_≡_};
 ghost use Prim.Native.Nat.{_≤_};
 ghost use lib.ListN.{length};
 ghost use Rattle.octets.specs.Octets.{copied};
-ghost use Rattle.page_writer.specs.Writing.{sealed, startOf, pageBytes, pageSize, Wrote};
+ghost use Rattle.page_writer.specs.Writing.{withChecksum, startOf, pageBytes, pageSize, Wrote};
+use page_layout::CAPTURE;
+use page_layout::CHECKSUM_AT;
+use page_layout::LACING_AT;
 use page_layout::PageHeader;
 use refusal::Refusal;
 
@@ -12,26 +15,27 @@ pub enum PageWritten {
     Refused(Refusal),
 }
 
-// Puts the page's checksum into its field. Fewer than 26 bytes stay as they are.
+// Puts the page's checksum into its field. Bytes that end before the field's end stay as they are.
 pub fn renew_checksum(page: &mut [u8])
-    ensures { λ _. ⌜ now (page .exit) ≡ sealed (now (page .entry)) ⌝ }
+    ensures { λ _. ⌜ now (page .exit) ≡ withChecksum (now (page .entry)) ⌝ }
 {
     let sum = page_crc::page_checksum(page);
-    number_writer::put32(page, 22, sum);
+    number_writer::put32(page, CHECKSUM_AT, sum);
 }
 
-// The 27 bytes before the lacing values, the checksum zero.
-fn start_of(h: PageHeader, count: u8) -> [u8; 27]
+// The bytes before the lacing values, the checksum zero.
+fn start_of(h: PageHeader, count: u8) -> [u8; LACING_AT]
     ensures { λ r. ⌜ r ≡ startOf h count ⌝ }
 {
+    let c = CAPTURE;
     let g = number_writer::octets64(h.granule);
     let s = number_writer::octets64(h.serial as u64);
     let q = number_writer::octets64(h.sequence as u64);
     [
-        0x4f,
-        0x67,
-        0x67,
-        0x53,
+        c[0],
+        c[1],
+        c[2],
+        c[3],
         0,
         h.flags,
         g[0],
@@ -65,11 +69,11 @@ fn put_page(h: PageHeader, lacing: &[u8], body: &[u8], out: &mut [u8])
     ensures { λ _. ⌜ now (out .exit) ≡ copied (now (out .entry)) 0 (pageBytes h (now (lacing .entry)) (now (body .entry))) ⌝ }
 {
     let count = lacing.len();
-    let size = 27 + count + body.len();
+    let size = LACING_AT + count + body.len();
     let start = start_of(h, count as u8);
     octets::copy_at(out, 0, &start);
-    octets::copy_at(out, 27, lacing);
-    octets::copy_at(out, 27 + count, body);
+    octets::copy_at(out, LACING_AT, lacing);
+    octets::copy_at(out, LACING_AT + count, body);
     renew_checksum(&mut out[..size]);
 }
 
@@ -78,16 +82,13 @@ fn put_page(h: PageHeader, lacing: &[u8], body: &[u8], out: &mut [u8])
 pub fn write_page(h: PageHeader, lacing: &[u8], body: &[u8], out: &mut [u8]) -> PageWritten
     ensures { λ r. ⌜ Wrote h (now (lacing .entry)) (now (body .entry)) (now (out .entry)) r (now (out .exit)) ⌝ }
 {
-    if lacing.len() > 255 {
-        return PageWritten::Refused(Refusal::UnfitFields);
-    }
-    if page_lacing::sum_of(lacing) != body.len() {
+    if !page_lacing::is_body(lacing, body) {
         return PageWritten::Refused(Refusal::UnfitFields);
     }
     if h.flags > 7 {
         return PageWritten::Refused(Refusal::UnfitFields);
     }
-    let size = 27 + lacing.len() + body.len();
+    let size = LACING_AT + lacing.len() + body.len();
     if out.len() < size {
         return PageWritten::Refused(Refusal::ShortOutput);
     }

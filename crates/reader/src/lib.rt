@@ -1,26 +1,23 @@
 // A reader of one Opus stream: starting, opening part way, and feeding one page at a time.
-ghost use Prim.Native.Nat.{ℕ};
 ghost use mathlib.Core.Path.{_≡_};
-ghost use mathlib.Core.List.{List};
-ghost use Rattle.octets.specs.Octets.{Bytes};
 ghost use Rattle.stream.specs.State.{isEnded};
 ghost use Rattle.page_crc.specs.Crc.{pageCrc};
 ghost use Rattle.page_crc_tables.specs.Table.{entryIn};
 ghost use Rattle.page_crc.specs.Sliced.{pageSliced};
 ghost use Rattle.stream.specs.Readings.{readings};
-ghost use Rattle.stream.specs.Feed.{start as started, openPartWay, feed as feedBy, Fed as Outcome, FedIs, lentOf};
+ghost use Rattle.stream.specs.Lent.{Lent, atEntry, atExit};
+ghost use Rattle.stream.specs.Feed.{start as started, openPartWay, Fed as Outcome, FedIs, Feeds, toldPage};
 ghost use Rattle.stream.specs.Feedings.{heldOf};
-ghost use Rattle.feed_page.specs.Answers.{toldCore};
-ghost use Rattle.feed_numbers.specs.Numbers.{StandFor, readerFrom};
+ghost use Rattle.feed_numbers.specs.Numbers.{StandFor};
 ghost use Rattle.reader.specs.Answers.{knownAs, toldOpened, toldFed};
-ghost use Rattle.reader.specs.Numbers.{StateOpenedIs, StateFedIs};
-use feed_page::CoreFed;
+ghost use Rattle.reader.specs.Numbers.{StateOpenedIs, StateFedIs, StateFeeds};
 use feed_start::CoreOpened;
 use granule::Position;
 use head_fields::Head;
 use refusal::Refusal;
 use stream::Core;
 use stream::Counts;
+use stream::PageFed;
 use stream::Tally;
 
 // A reader comes only from starting, opening and feeding.
@@ -95,12 +92,13 @@ pub fn held(reader: Reader) -> usize
 
 // ---- feeding
 
-fn sealed(fed: CoreFed) -> Fed
-    ensures { λ r. ⌜ toldFed r ≡ toldCore fed ⌝ }
+// The same answer with the core and the tally as a reader.
+fn fed_of(fed: PageFed) -> Fed
+    ensures { λ r. ⌜ toldFed r ≡ toldPage fed ⌝ }
 {
     match fed {
-        CoreFed::Accepted(core, tally, counts) => Fed::Accepted(Reader { core, tally }, counts),
-        CoreFed::Refused(why) => Fed::Refused(why),
+        PageFed::Accepted(core, tally, counts) => Fed::Accepted(Reader { core, tally }, counts),
+        PageFed::Refused(why) => Fed::Refused(why),
     }
 }
 
@@ -112,35 +110,39 @@ pub fn feed(
     page: &[u8],
     carry: &mut [u8],
     ends: &mut [u64],
-    sizes: &mut [u64],
+    lengths: &mut [u64],
     kept: &mut [u64],
 ) -> Fed
-    ensures { λ r. ⌜ FedIs (feedBy (readings pageCrc) (knownAs reader) (lentOf (now (carry .entry)) (now (ends .entry)) (now (sizes .entry)) (now (kept .entry))) (now (page .entry))) (toldFed r) (now (carry .exit)) (now (ends .exit)) (now (sizes .exit)) (now (kept .exit)) ⌝ }
+    ensures { λ r. ⌜
+        Feeds (readings pageCrc) (knownAs reader) (now (page .entry))
+        (atEntry carry ends lengths kept) (toldFed r) (atExit carry ends lengths kept) ⌝ }
 {
-    sealed(feed_page::feed_core(reader.core, reader.tally, page, carry, ends, sizes, kept))
+    fed_of(feed_page::feed_core(reader.core, reader.tally, page, carry, ends, lengths, kept))
 }
 
-// The same as `feed`, by lent tables: those of `page_crc_tables::table::tables` give the checksum, and others what they give. Whoever
-// feeds many small pages makes the tables once.
+// The same as `feed`, by lent tables: those of `page_crc_tables::table::tables` give the checksum, and others what they give.
+// Whoever feeds many small pages makes the tables once.
 pub fn feed_with(
     tables: &[u32; 4096],
     reader: Reader,
     page: &[u8],
     carry: &mut [u8],
     ends: &mut [u64],
-    sizes: &mut [u64],
+    lengths: &mut [u64],
     kept: &mut [u64],
 ) -> Fed
-    ensures { λ r. ⌜ FedIs (feedBy (readings (pageSliced (entryIn (now (tables .entry))))) (knownAs reader) (lentOf (now (carry .entry)) (now (ends .entry)) (now (sizes .entry)) (now (kept .entry))) (now (page .entry))) (toldFed r) (now (carry .exit)) (now (ends .exit)) (now (sizes .exit)) (now (kept .exit)) ⌝ }
+    ensures { λ r. ⌜
+        Feeds (readings (pageSliced (entryIn (now (tables .entry))))) (knownAs reader) (now (page .entry))
+        (atEntry carry ends lengths kept) (toldFed r) (atExit carry ends lengths kept) ⌝ }
 {
-    sealed(feed_page::feed_core_with(
+    fed_of(feed_page::feed_core_with(
         tables,
         reader.core,
         reader.tally,
         page,
         carry,
         ends,
-        sizes,
+        lengths,
         kept,
     ))
 }
@@ -178,15 +180,16 @@ pub fn open_state(head: Head, state: &mut [u64; 16]) -> StateOpened
 }
 
 // The numbers of the next reader; a refusal changes none.
-fn keep(fed: CoreFed, state: &mut [u64; 16]) -> StateFed
-    ensures { λ r. ⌜ ((f : Outcome) (carry : Bytes) (ends sizes kept : List ℕ) → FedIs f (toldCore fed) carry ends sizes kept → StateFedIs f r (now (state .entry)) (now (state .exit)) carry ends sizes kept) ⌝ }
+fn keep(fed: PageFed, state: &mut [u64; 16]) -> StateFed
+    ensures { λ r. ⌜ ((f : Outcome) (after : Lent) →
+        FedIs f (toldPage fed) after → StateFedIs f r (now (state .entry)) (now (state .exit)) after) ⌝ }
 {
     match fed {
-        CoreFed::Accepted(core, tally, counts) => {
+        PageFed::Accepted(core, tally, counts) => {
             *state = feed_numbers::numbers_of(core, tally);
             StateFed::Accepted(counts)
         }
-        CoreFed::Refused(why) => StateFed::Refused(why),
+        PageFed::Refused(why) => StateFed::Refused(why),
     }
 }
 
@@ -196,15 +199,17 @@ pub fn feed_state(
     page: &[u8],
     carry: &mut [u8],
     ends: &mut [u64],
-    sizes: &mut [u64],
+    lengths: &mut [u64],
     kept: &mut [u64],
 ) -> StateFed
-    ensures { λ r. ⌜ StateFedIs (feedBy (readings pageCrc) (readerFrom (now (state .entry))) (lentOf (now (carry .entry)) (now (ends .entry)) (now (sizes .entry)) (now (kept .entry))) (now (page .entry))) r (now (state .entry)) (now (state .exit)) (now (carry .exit)) (now (ends .exit)) (now (sizes .exit)) (now (kept .exit)) ⌝ }
+    ensures { λ r. ⌜
+        StateFeeds (readings pageCrc) (now (state .entry)) (now (page .entry)) (atEntry carry ends lengths kept)
+        r (now (state .exit)) (atExit carry ends lengths kept) ⌝ }
 {
     let core = feed_numbers::core_from(state);
     let tally = feed_numbers::tally_from(state);
     keep(
-        feed_page::feed_core(core, tally, page, carry, ends, sizes, kept),
+        feed_page::feed_core(core, tally, page, carry, ends, lengths, kept),
         state,
     )
 }

@@ -1,7 +1,12 @@
 -- The number of each refusal (document 01, "Refusals by number"). Assumes nothing.
 use Prim.Native.Nat.{ℕ}
 use Rattle.refusal.specs.declared.Refusal.{Refusal}
-use Rattle.refusal.specs.declared.Refusal.the-variants.{ShortRoom, AfterEnd, NotOnePage, WrongChecksum, OtherSerial, OutOfSequence, WrongFlags, WrongContinued, PacketTooLong, HeaderShape, WrongGranule, BadHead, BadMapping, BadTags, IllegalPacket, MixedLengths, GranuleTooSmall, BelowPreSkip, NoPosition, NoSuchComment, BadGain, ShortOutput, UnfitFields, ClockRange}
+use Rattle.refusal.specs.declared.Refusal.the-variants.{ShortRoom, AfterEnd, NotOnePage, WrongChecksum}
+use Rattle.refusal.specs.declared.Refusal.the-variants.{OtherSerial, OutOfSequence, WrongFlags, WrongContinued}
+use Rattle.refusal.specs.declared.Refusal.the-variants.{PacketTooLong, HeaderShape, WrongGranule, BadHead}
+use Rattle.refusal.specs.declared.Refusal.the-variants.{BadMapping, BadTags, IllegalPacket, MixedLengths}
+use Rattle.refusal.specs.declared.Refusal.the-variants.{GranuleTooSmall, BelowPreSkip, NoPosition, NoSuchComment}
+use Rattle.refusal.specs.declared.Refusal.the-variants.{BadGain, ShortOutput, UnfitFields, ClockRange}
 
 abbrev pub numberOf : Refusal → ℕ
 numberOf ShortRoom = 1

@@ -31,7 +31,7 @@ use Rattle.stream.specs.Feedings.{Shown, bytesOf}
 use Rattle.stream.proofs.Passed.{Shaped, shaped}
 use Rattle.stream.proofs.Pieces.{page-completes}
 use Rattle.stream.proofs.Segments.{Begun, begun-left, joins}
-use Rattle.stream.proofs.Meeting.{audio}
+use Rattle.stream.proofs.TwoReaders.{audio}
 use Rattle.stream.proofs.Joining.{afterAll, ended-none}
 use Rattle.stream.proofs.Runs.{listingOn, skipIn, Lists, skipAll}
 
@@ -101,7 +101,7 @@ entries-same : (k n : ℕ) (m : Mark) (at : ℕ) (ds : List ℕ) → entries (k 
 unfolding entries entriesFrom
 entries-same k n m at [] = refl
 entries-same k n m at (d ∷ ds) =
-    ap₂ (λ (a : ℕ) (l : List Entry). record { end = at + d; size = d; kept = a } ∷ l) (kept-same k n m at d)
+    ap₂ (λ (a : ℕ) (l : List Entry). record { end = at + d; samples = d; kept = a } ∷ l) (kept-same k n m at d)
     (ap (λ (s : ℕ). entries s (m .last) (m .granule) (at + d) ds) (less k n d) ∙ entries-same k (n + d) m (at + d) ds)
 
 -- ---- one audio page

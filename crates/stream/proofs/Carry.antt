@@ -23,7 +23,8 @@ use Rattle.stream.specs.declared.Core.{Core}
 use Rattle.stream.specs.Page.{Page, pageOf, continued, whole, rest}
 use Rattle.stream.specs.Readings.{Readings}
 use Rattle.stream.specs.State.{Carried, nothing, dropped, held, State, isComment, expectingIn, expecting}
-use Rattle.stream.specs.Packets.{Seen, begun, join, packetMax, isLong}
+use Rattle.stream.specs.Packets.{Seen, begun, join, isLong}
+use Rattle.limits.specs.Limits.{packetMax}
 use Rattle.stream.specs.Rules.{checksOn}
 use Rattle.stream.specs.Feed.{carriedIn, pendingOf, view, firstPiece, appended, newRest, withRest, isLate, carryAfter}
 use Rattle.stream.proofs.Pieces.{Fits, RestFits}

@@ -2,7 +2,7 @@
 -- position, and the whole pre-skip still to skip. Assumes nothing.
 use Prim.Native.Nat.{ℕ, suc, _+_, _-_, _%_, _^_, _<_}
 use mathlib.Core.Path.{_≡_, refl, sym, ap, ap₂, subst, _∙_}
-use mathlib.Core.Bool.{Bool, true, false, false≢true}
+use mathlib.Core.Bool.{Bool, true, false, false≢true, true≢false}
 use mathlib.Core.List.{List, [], _∷_, map}
 use mathlib.Core.Option.{Option, none, some}
 use native.Mathlib.Nat.{sub-zero, zero-add}
@@ -16,21 +16,25 @@ use Rattle.granule.specs.declared.Position.the-variants.{Unset}
 use Rattle.granule.specs.Samples.{tally, keptOf, skippedOf, trimmedOf}
 use Rattle.stream.specs.declared.Phase.{Phase}
 use Rattle.stream.specs.declared.Phase.the-variants.{Comment, Audio}
+use Rattle.stream.specs.declared.Shape.{Shape}
+use Rattle.stream.specs.declared.Shape.the-variants.{Ends, GoesOn, Other}
 use Rattle.stream.specs.Page.{Page, pageOf, completes, whole, rest}
 use Rattle.stream.specs.Readings.{Readings}
 use Rattle.stream.specs.State.{Carried, nothing, dropped, held, State, unfinished, expecting}
 use Rattle.stream.specs.Packets.{begun, join, seen, audioPackets, lengthsOf}
-use Rattle.stream.specs.Rules.{onePiece, wrongShape, nextOn, verdict, after}
+use Rattle.stream.specs.Rules.{nextOn, verdict, after}
+use Rattle.stream.specs.Shape.{shapeOf, isOther}
 use Rattle.stream.specs.Feed.{entries, entriesOn, countsOn, skipOn}
-use Rattle.stream.specs.Stream.{segmentsOf, leftFrom, openFrom, openAfter, leftAfter, carriedOf, afterComment, endedAfter, audioPhase, commentPhase, Mark, marksFrom, positionFrom, decodedIn, Listing, silent, audioListings, commentListings, listings}
-use Rattle.stream.specs.Feedings.{Shown, bytesIn, bytesOf, stood}
+use Rattle.stream.specs.Stream.{segmentsOf, leftFrom, openFrom, openAfter, leftAfter, carriedOf, afterComment, endedAfter, audioPhase, commentPhase, Mark, marksFrom, positionFrom, decodedIn, Listing, nothingListed, audioListings, commentListings, listings}
+use Rattle.stream.specs.Feedings.{Shown, bytesIn, bytesOf, hasPosition}
 use Rattle.stream.proofs.Passed.{shaped}
+use Rattle.stream.proofs.Shapes.{Says, shape-says}
 use Rattle.stream.proofs.Pieces.{page-completes}
 use Rattle.stream.proofs.Segments.{Begun, begun-left, carried-open, joins}
-use Rattle.stream.proofs.Meeting.{audio}
+use Rattle.stream.proofs.TwoReaders.{audio}
 use Rattle.stream.proofs.Joining.{afterAll}
 use Rattle.stream.proofs.Runs.{listingOn, skipIn, Lists, skipAll}
-use Rattle.stream.proofs.AudioRun.{Expected, expected, next-page, Audio as Sound, audio-run}
+use Rattle.stream.proofs.AudioRun.{Expected, expected, next-page, Audio as AudioPages, audio-run}
 
 -- a state among the pages of the comment packet, or the first of the audio pages
 abbrev pub commenting : Phase → Carried → ℕ → ℕ → Head → State
@@ -46,23 +50,27 @@ commenting ph cr serial next head = record {
 
 -- ---- one page of the comment packet
 
--- the page that completes it leaves nothing unfinished
-one-packet : (cr : Carried) (ws : List Bytes) (r : Option Bytes) → onePiece ws r ≡ true → join cr ws r .completes ≡ true
-    → join cr ws r .left ≡ nothing
+none-completes : (cr : Carried) (r : Option Bytes) → join cr [] r .completes ≡ true → ⊥
 unfolding join
-one-packet nothing [] r o e = absurd (false≢true e)
-one-packet nothing (w ∷ []) none o e = refl
-one-packet nothing (w ∷ []) (some b) o e = absurd (false≢true o)
-one-packet nothing (w ∷ (v ∷ ws)) r o e = absurd (false≢true o)
-one-packet dropped [] r o e = absurd (false≢true e)
-one-packet dropped (w ∷ []) none o e = refl
-one-packet dropped (w ∷ []) (some b) o e = absurd (false≢true o)
-one-packet dropped (w ∷ (v ∷ ws)) r o e = absurd (false≢true o)
-one-packet (held n h) [] none o e = absurd (false≢true e)
-one-packet (held n h) [] (some b) o e = absurd (false≢true e)
-one-packet (held n h) (w ∷ []) none o e = refl
-one-packet (held n h) (w ∷ []) (some b) o e = absurd (false≢true o)
-one-packet (held n h) (w ∷ (v ∷ ws)) r o e = absurd (false≢true o)
+none-completes nothing r e = false≢true e
+none-completes dropped r e = false≢true e
+none-completes (held n h) none e = false≢true e
+none-completes (held n h) (some b) e = false≢true e
+
+one-left : (cr : Carried) (piece : Bytes) → join cr (piece ∷ []) none .left ≡ nothing
+unfolding join
+one-left nothing piece = refl
+one-left dropped piece = refl
+one-left (held n h) piece = refl
+
+-- the page that completes it leaves nothing unfinished
+one-packet : (cr : Carried) (s : Shape) (ws : List Bytes) (r : Option Bytes) (piece : Bytes) → Says s ws r piece → isOther s ≡ false
+    → join cr ws r .completes ≡ true → join cr ws r .left ≡ nothing
+one-packet cr Ends ws r piece says o e =
+    ap₂ (λ (l : List Bytes) (t : Option Bytes). join cr l t .left) (says .0) (says .1) ∙ one-left cr piece
+one-packet cr GoesOn ws r piece says o e =
+    absurd (none-completes cr r (subst (λ (l : List Bytes). join cr l r .completes ≡ true) (says .0) e))
+one-packet cr Other ws r piece says o e = absurd (true≢false o)
 
 module _ (R : Readings) (head : Head) (b : Bytes) (o : Bool) (h : Bytes) (serial next : ℕ) (begun : Begun o h) where
   abbrev page : Page
@@ -87,20 +95,21 @@ module _ (R : Readings) (head : Head) (b : Bytes) (o : Bool) (h : Bytes) (serial
       ∙ ap₂ (λ (s q : ℕ). commenting (pick (completes page) Audio Comment) (carriedOf o-after h-after) s ((q + 1) % 2 ^ 32) head) (e .serial)
       (e .sequence)
 
-  comment-shape : verdict R now b ≡ none → onePiece (whole page) (rest page) ≡ true
-  unfolding verdict expecting wrongShape
-  comment-shape v = not-false (onePiece (whole page) (rest page)) (shaped R now b (seen now page) v .shape)
+  comment-shape : verdict R now b ≡ none → isOther (shapeOf (page .lacing)) ≡ false
+  unfolding verdict expecting
+  comment-shape v = shaped R now b (seen now page) v .shape
 
   -- nothing is open after the page that completes it
   pub comment-closed : verdict R now b ≡ none → completes page ≡ true → o-after ≡ false
   comment-closed v e =
       sym (carried-open o-after h-after) ∙ ap unfinished (sym (joins o h page begun .left))
-      ∙ ap unfinished (one-packet (carriedOf o h) (whole page) (rest page) (comment-shape v) (page-completes (carriedOf o h) page ∙ e))
+      ∙ ap unfinished (one-packet (carriedOf o h) (shapeOf (page .lacing)) (whole page) (rest page) _ (shape-says page) (comment-shape v)
+      (page-completes (carriedOf o h) page ∙ e))
 
   -- nothing is told of it
-  pub comment-silent : (skip : ℕ) → listingOn R skip now b ≡ silent
+  pub comment-lists-nothing : (skip : ℕ) → listingOn R skip now b ≡ nothingListed
   unfolding entriesOn countsOn entries lengthsOf audioPackets expecting total keptOf skippedOf trimmedOf tally
-  comment-silent skip = refl
+  comment-lists-nothing skip = refl
 
   pub comment-skip : (skip : ℕ) → skipIn R skip now b ≡ skip
   unfolding skipOn expecting
@@ -112,10 +121,10 @@ module _ (R : Readings) (head : Head) (b : Bytes) (o : Bool) (h : Bytes) (serial
 pub record Arrived (R : Readings) (head : Head) (serial : ℕ) (end : State) (xs : List Shown) : Type 0 where
   pub next : ℕ
   pub lists : Lists R (audio false nothing Unset serial next head) (head .preskip) xs
-  pub ends : stood xs ≡ true → afterAll R (audio false nothing Unset serial next head) (bytesOf xs) ≡ end
+  pub ends : hasPosition xs ≡ true → afterAll R (audio false nothing Unset serial next head) (bytesOf xs) ≡ end
 
 pub none-arrived : (R : Readings) (head : Head) (serial : ℕ) (end : State) → Arrived R head serial end []
-unfolding stood
+unfolding hasPosition
 none-arrived R head serial end = record { next = 0; lists = tt; ends = λ t. absurd (false≢true t) }
 
 abbrev pub id-bytes : Bytes → Bytes
@@ -202,13 +211,13 @@ module _ (R : Readings) (head : Head) (x : Shown) (xs : List Shown) (o : Bool) (
       let closed : o-next ≡ false = comment-closed R head (x .bytes) o h serial next begun (f .0) e in
       let empty : h-next ≡ [] = begun-left o h (segmentsOf (pageOf (x .bytes))) begun closed in
       let none-left : carriedOf o-next h-next ≡ nothing = ap (λ (w : Bool). carriedOf w h-next) closed in
-      let sound : State = audio false nothing Unset serial due head in
-      let lists : Lists R sound (head .preskip) xs = subst
+      let audio-state : State = audio false nothing Unset serial due head in
+      let lists : Lists R audio-state (head .preskip) xs = subst
       (λ (k : Carried). Lists R (commenting Audio k serial due head) (head .preskip) xs) none-left (then-lists true e) in
-      let same : after R this (x .bytes) ≡ sound = then-after true e ∙ ap (λ (k : Carried). commenting Audio k serial due head) none-left in
-      let run : Sound R head xs false false [] Unset serial due 0 =
+      let same : after R this (x .bytes) ≡ audio-state = then-after true e ∙ ap (λ (k : Carried). commenting Audio k serial due head) none-left in
+      let run : AudioPages R head xs false false [] Unset serial due 0 =
       audio-run R head xs false false [] Unset serial due 0 (λ w. refl) (omega arith)
-      (subst (λ (j : ℕ). Lists R sound j xs) (sym (sub-zero (head .preskip))) lists) in
+      (subst (λ (j : ℕ). Lists R audio-state j xs) (sym (sub-zero (head .preskip))) lists) in
       record {
         arrives = record { next = due; lists = lists; ends = λ t. ap (λ (s : State). afterAll R s bs) (sym same) };
         state = ap (λ (s : State). afterAll R s bs) same ∙ run .state
@@ -257,6 +266,6 @@ comment-run R head (x ∷ xs) o h serial next k small f =
       arrives = m .arrives;
       state = m .state;
       skips = m .skips;
-      listings = ap₂ (λ (a : Listing) (l : List Listing). a ∷ l) (f .1 ∙ comment-silent R head (x .bytes) o h serial next k (head .preskip))
+      listings = ap₂ (λ (a : Listing) (l : List Listing). a ∷ l) (f .1 ∙ comment-lists-nothing R head (x .bytes) o h serial next k (head .preskip))
           (m .listings);
     }

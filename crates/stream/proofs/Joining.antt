@@ -9,6 +9,7 @@ use Rattle.octets.specs.Octets.{Bytes}
 use Rattle.refusal.specs.declared.Refusal.{Refusal}
 use Rattle.refusal.specs.declared.Refusal.the-variants.{AfterEnd, NoPosition}
 use Rattle.refusal.specs.Checks.{firstOf}
+use Rattle.refusal.specs.Numbers.{numberOf}
 use Rattle.refusal.specs.Told.{Told, gives, refuses}
 use Rattle.head_fields.specs.declared.Head.{Head}
 use Rattle.granule.specs.declared.Position.{Position}
@@ -18,11 +19,11 @@ use Rattle.stream.specs.Readings.{Readings}
 use Rattle.stream.specs.State.{Carried, State, expecting}
 use Rattle.stream.specs.Packets.{Seen, seen}
 use Rattle.stream.specs.Rules.{checksOn, Stamp, stampsOn, afterPosition, nextOn, verdict, after, stamped}
-use Rattle.stream.specs.Feedings.{Shown, bytesOf, stampsOf, dropIf, joinedFrom, stood}
+use Rattle.stream.specs.Feedings.{Shown, bytesOf, stampsOf, dropIf, joinedFrom, hasPosition}
 use Rattle.stream.proofs.Clear.{some≢none}
 use Rattle.stream.proofs.Pieces.{seen-completes}
 use Rattle.stream.proofs.Step.{stateBy, tellBy}
-use Rattle.stream.proofs.Meeting.{audio, isDropped, Near, Close, close, NotJoined, going-passes, going-lists, last-refused, next-passes, next-lists}
+use Rattle.stream.proofs.TwoReaders.{audio, isDropped, Near, Close, close, NotJoined, going-passes, going-lists, last-refused, next-passes, next-lists}
 
 -- ---- runs on states
 
@@ -84,14 +85,14 @@ Sim R h xs =
 abbrev SimState : Readings → Head → List Shown → Type 0
 SimState R h xs =
     (ended : Bool) (cr cq : Carried) (position : Position) (serial next : ℕ) → Near cr cq → NotJoined position
-    → Follows R (audio ended cr position serial next h) xs → stood xs ≡ true
+    → Follows R (audio ended cr position serial next h) xs → hasPosition xs ≡ true
     → afterTold R (audio ended cq Joined serial next h) (bytesOf xs) ≡ afterAll R (audio ended cr position serial next h) (bytesOf xs)
 
-none-stood : (R : Readings) (h : Head) (cr : Carried) (position : Position) (serial next : ℕ) (xs : List Shown)
-    → Follows R (audio true cr position serial next h) xs → stood xs ≡ true → ⊥
-unfolding stood
-none-stood R h cr position serial next [] f t = false≢true t
-none-stood R h cr position serial next (x ∷ xs) f t = ended-none R h cr position serial next (x .bytes) (f .0)
+none-has-position : (R : Readings) (h : Head) (cr : Carried) (position : Position) (serial next : ℕ) (xs : List Shown)
+    → Follows R (audio true cr position serial next h) xs → hasPosition xs ≡ true → ⊥
+unfolding hasPosition
+none-has-position R h cr position serial next [] f t = false≢true t
+none-has-position R h cr position serial next (x ∷ xs) f t = ended-none R h cr position serial next (x .bytes) (f .0)
 
 -- one page; the second reader's state is q, which takes the page as a state among the audio pages does
 module _ (R : Readings) (h : Head) (x : Shown) (xs : List Shown) (q : State) (cr cq : Carried) (position : Position) (serial next : ℕ)
@@ -177,11 +178,11 @@ module _ (R : Readings) (h : Head) (x : Shown) (xs : List Shown) (q : State) (cr
 
   -- a packet completes on the last page: 19, and no page follows
   at-end : full-saw .completes ≡ true → last page ≡ true
-      → toldAll R q (x .bytes ∷ bytesOf xs) ≡ refuses 19 ∷ joinedFrom (isDropped cq) false xs
+      → toldAll R q (x .bytes ∷ bytesOf xs) ≡ refuses (numberOf NoPosition) ∷ joinedFrom (isDropped cq) false xs
   at-end e l =
       let v : verdict R q (x .bytes) ≡ some NoPosition = other-verdict
       ∙ last-refused R h cr cq position serial next (x .bytes) full-saw other-saw near closely nj full-pass e l in
-      rw v (ap (λ (m : List (Told (List Stamp))). refuses 19 ∷ m) (nothing-after R h _ _ _ _ (isDropped cq) q xs (ends-here e l)))
+      rw v (ap (λ (m : List (Told (List Stamp))). refuses (numberOf NoPosition) ∷ m) (nothing-after R h _ _ _ _ (isDropped cq) q xs (ends-here e l)))
 
   -- a packet completes on another page: the states are one from here on
   passes-next : full-saw .completes ≡ true → last page ≡ false → verdict R q (x .bytes) ≡ none
@@ -203,7 +204,7 @@ module _ (R : Readings) (h : Head) (x : Shown) (xs : List Shown) (q : State) (cr
     where
       by : (t l : Bool) → full-saw .completes ≡ t → last page ≡ l
           → toldAll R q (x .bytes ∷ bytesOf xs)
-          ≡ pick t (pick l (refuses 19 ∷ joinedFrom (isDropped cq) false xs)
+          ≡ pick t (pick l (refuses (numberOf NoPosition) ∷ joinedFrom (isDropped cq) false xs)
           (gives (dropIf (isDropped cq) (stampsOf x)) ∷ joinedFrom (isDropped cq) true xs))
           (gives (stampsOf x) ∷ joinedFrom (isDropped cq) false xs)
       by false l e k = going-on ih e
@@ -217,7 +218,7 @@ module _ (R : Readings) (h : Head) (x : Shown) (xs : List Shown) (q : State) (cr
   abbrev SameEnd : Type 0
   SameEnd = afterTold R q (x .bytes ∷ bytesOf xs) ≡ afterAll R (after R (audio false cr position serial next h) (x .bytes)) (bytesOf xs)
 
-  going-state : SimState R h xs → full-saw .completes ≡ false → stood xs ≡ true → SameEnd
+  going-state : SimState R h xs → full-saw .completes ≡ false → hasPosition xs ≡ true → SameEnd
   going-state ih e t =
       after-pass (passes-going e)
       ∙ ap (λ (s : State). afterTold R s (bytesOf xs)) (other-after false (closely .completes ∙ e))
@@ -231,14 +232,14 @@ module _ (R : Readings) (h : Head) (x : Shown) (xs : List Shown) (q : State) (cr
       ∙ ap (λ (s : State). afterTold R s (bytesOf xs)) (same-states e)
       ∙ follows-after R xs (after R (audio false cr position serial next h) (x .bytes)) (f .2)
 
-  pub page-state : SimState R h xs → stood (x ∷ xs) ≡ true
+  pub page-state : SimState R h xs → hasPosition (x ∷ xs) ≡ true
       → afterTold R q (x .bytes ∷ bytesOf xs) ≡ afterAll R (audio false cr position serial next h) (x .bytes ∷ bytesOf xs)
-  unfolding stood full-saw afterAll
+  unfolding hasPosition full-saw afterAll
   page-state ih t = by (completes page) (last page) (seen-completes (audio false cr position serial next h) page) refl t
     where
-      by : (t l : Bool) → full-saw .completes ≡ t → last page ≡ l → ((t && not l) || stood xs) ≡ true → SameEnd
+      by : (t l : Bool) → full-saw .completes ≡ t → last page ≡ l → ((t && not l) || hasPosition xs) ≡ true → SameEnd
       by false l e k t = going-state ih e t
-      by true true e k t = absurd (none-stood R h _ _ _ _ xs (ends-here e k) t)
+      by true true e k t = absurd (none-has-position R h _ _ _ _ xs (ends-here e k) t)
       by true false e k t = standing-state e k
 
 pub sim : (R : Readings) (h : Head) (xs : List Shown) → Sim R h xs
@@ -249,7 +250,7 @@ sim R h (x ∷ xs) false cr cq position serial next near nj f =
     page-joined R h x xs (audio false cq Joined serial next h) cr cq position serial next refl refl refl near nj f (sim R h xs)
 
 pub sim-state : (R : Readings) (h : Head) (xs : List Shown) → SimState R h xs
-unfolding stood
+unfolding hasPosition
 sim-state R h [] ended cr cq position serial next near nj f t = absurd (false≢true t)
 sim-state R h (x ∷ xs) true cr cq position serial next near nj f t = absurd (ended-none R h cr position serial next (x .bytes) (f .0))
 sim-state R h (x ∷ xs) false cr cq position serial next near nj f t =

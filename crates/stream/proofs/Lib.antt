@@ -1,9 +1,11 @@
+pub mod Lent
 pub mod Clear
 pub mod Passed
 pub mod Pieces
+pub mod Shapes
 pub mod Carry
 pub mod Step
-pub mod Meeting
+pub mod TwoReaders
 pub mod Joining
 pub mod Runs
 pub mod Segments
@@ -16,7 +18,3 @@ pub mod MarkCounts
 pub mod Theorem4
 pub mod Real
 pub mod Lists
-pub mod Plan
-pub mod WrittenOctets
-pub mod Example
-pub mod Meets

@@ -20,7 +20,9 @@ use Rattle.stream.specs.Readings.{Readings}
 use Rattle.stream.specs.State.{Carried, nothing, dropped, held, State, inHeaders}
 use Rattle.stream.specs.Packets.{Seen, join, seen, audioPackets, lengthsOf}
 use Rattle.stream.specs.Rules.{verdict}
-use Rattle.stream.specs.Feed.{Reader, view, Entry, entries, entriesOn, countsOn, Lent, listMax, isShort, listed, Taken, Fed, fedBy, feed}
+use Rattle.stream.specs.Feed.{Reader, view, Entry, entries, entriesOn, countsOn, listed, Taken, Fed, fedBy, feed}
+use Rattle.stream.specs.Lent.{Lent, isShort}
+use Rattle.limits.specs.Limits.{listMax}
 use Rattle.stream.specs.Statements.{HasFirst, Shows, AcceptedShows}
 use Rattle.stream.proofs.Pieces.{onwards}
 use Rattle.stream.proofs.Carry.{length-carry}
@@ -103,7 +105,7 @@ shows-by R r m b t none o e =
       packets = ap (λ (c : Counts). c .packets) (sym same) ∙ sym size;
       few = (let k : length (lengthsOf R s x) ≤ listMax = audio-few R s b o in omega arith);
       ends = has-first (λ (n : Entry). n .end) es (m .ends);
-      sizes = has-first (λ (n : Entry). n .size) es (m .sizes);
+      lengths = has-first (λ (n : Entry). n .samples) es (m .lengths);
       kept = has-first (λ (n : Entry). n .kept) es (m .kept);
       room = length-carry none s (pageOf b) (m .carry);
     }

@@ -7,26 +7,27 @@ use lib.Dec.{ltb, eqb}
 use Rattle.octets.specs.Pick.{pick}
 use Rattle.octets.specs.Octets.{Bytes, total}
 use Rattle.refusal.specs.Checks.{Check, firstOf}
-use Rattle.granule.specs.Judging.{isJoined, isUnset, tooSmall, judgeChecks}
+use Rattle.granule.specs.Judging.{granuleWrong, isJoined, isUnset, tooSmall, judgeChecks}
 use Rattle.stream.specs.Page.{pageOf, continued, last, granuleOf}
 use Rattle.stream.specs.Readings.{Readings}
 use Rattle.stream.specs.State.{State, isEnded, isFirst, isComment, unfinished}
 use Rattle.stream.specs.Packets.{Seen, isLong, audioPackets, lengthsOf}
-use Rattle.stream.specs.Rules.{wrongFlags, wrongShape, wrongGranule, firstPacket, sounds, shapeChecks, packetChecks, timeChecks, checksOn}
+use Rattle.stream.specs.Rules.{wrongFlags, granuleMost, firstPacket, audioCompletes, shapeChecks, packetChecks, timeChecks, checksOn}
+use Rattle.stream.specs.Shape.{shapeOf, wrongShape}
 use Rattle.stream.proofs.Clear.{Clear, clear, passes, past, clear-left, clear-right}
 
 -- 2 to 16
 pub record Shaped (R : Readings) (s : State) (b : Bytes) (x : Seen) : Type 0 where
   pub going : isEnded (s .phase) ≡ false
   pub page : not (R .isPage b) ≡ false
-  pub sealed : not (R .isSealed b) ≡ false
+  pub checksum : not (R .isChecksummed b) ≡ false
   pub serial : not (eqb (pageOf b .header .serial) (s .serial)) ≡ false
   pub sequence : not (eqb (pageOf b .header .sequence) (s .next)) ≡ false
   pub flags : wrongFlags (s .phase) (pageOf b .header .flags) ≡ false
   pub continues : not (Bool·beq (continued (pageOf b)) (unfinished (s .carried))) ≡ false
   pub short : isLong (s .carried) (pageOf b .lacing) ≡ false
-  pub shape : wrongShape (s .phase) (pageOf b) x ≡ false
-  pub granule : wrongGranule (s .phase) (granuleOf (pageOf b)) (x .completes) ≡ false
+  pub shape : wrongShape (s .phase) (shapeOf (pageOf b .lacing)) ≡ false
+  pub granule : granuleWrong (granuleMost (s .phase)) (x .completes) (granuleOf (pageOf b)) ≡ false
   pub head : (isFirst (s .phase) && not (R .isHead (firstPacket (x .packets)))) ≡ false
   pub mapping : (isFirst (s .phase) && not (R .isMapped (firstPacket (x .packets)))) ≡ false
   pub tags : (isComment (s .phase) && (x .completes && not (R .isTags (firstPacket (x .packets))))) ≡ false
@@ -51,7 +52,7 @@ module _ (R : Readings) (s : State) (b : Bytes) (x : Seen) where
       record {
         going = k .0;
         page = k .1 .0;
-        sealed = k .1 .1 .0;
+        checksum = k .1 .1 .0;
         serial = k .1 .1 .1 .0;
         sequence = k .1 .1 .1 .1 .0;
         flags = k .1 .1 .1 .1 .1 .0;
@@ -70,25 +71,25 @@ module _ (R : Readings) (s : State) (b : Bytes) (x : Seen) where
   unfolding checksOn
   past-shape k =
       past (shapeChecks R s b x) later
-      (k .going, (k .page, (k .sealed, (k .serial, (k .sequence, (k .flags, (k .continues, (k .short, (k .shape, (k .granule, (k .head, (k .mapping, (k .tags, tt)))))))))))))
+      (k .going, (k .page, (k .checksum, (k .serial, (k .sequence, (k .flags, (k .continues, (k .short, (k .shape, (k .granule, (k .head, (k .mapping, (k .tags, tt)))))))))))))
       ∙ past (packetChecks R (s .streams) (audioPackets s x)) (timeChecks R s (pageOf b) x) (k .packets)
 
   abbrev judging : List Check
   judging = judgeChecks (s .position) (s .preskip) (granuleOf (pageOf b)) (total (lengthsOf R s x)) (last (pageOf b))
 
-  pub timed : sounds s x ≡ true → firstOf (checksOn R s b x) ≡ none → Timed R s b x
+  pub timed : audioCompletes s x ≡ true → firstOf (checksOn R s b x) ≡ none → Timed R s b x
   unfolding checksOn timeChecks
   timed e v =
       let m : Clear later = clear-right (shapeChecks R s b x) later (clear (shapeChecks R s b x ++ later) v) in
-      let k : Clear (pick (sounds s x) judging []) = clear-right (packetChecks R (s .streams) (audioPackets s x)) (timeChecks R s (pageOf b) x) m in
+      let k : Clear (pick (audioCompletes s x) judging []) = clear-right (packetChecks R (s .streams) (audioPackets s x)) (timeChecks R s (pageOf b) x) m in
       let t : Clear judging = rw e at k in
       record { stands = t .0; skips = t .1 .0; reaches = t .1 .1 .0 }
 
-  pub sounding-passes : sounds s x ≡ true → Shaped R s b x → Timed R s b x → firstOf (checksOn R s b x) ≡ none
+  pub completing-passes : audioCompletes s x ≡ true → Shaped R s b x → Timed R s b x → firstOf (checksOn R s b x) ≡ none
   unfolding timeChecks
-  sounding-passes e k t =
+  completing-passes e k t =
       past-shape k ∙ ap (λ (w : Bool). firstOf (pick w judging [])) e ∙ passes judging (t .stands, (t .skips, (t .reaches, tt)))
 
-  pub silent-passes : sounds s x ≡ false → Shaped R s b x → firstOf (checksOn R s b x) ≡ none
+  pub piece-passes : audioCompletes s x ≡ false → Shaped R s b x → firstOf (checksOn R s b x) ≡ none
   unfolding timeChecks firstOf
-  silent-passes e k = past-shape k ∙ ap (λ (w : Bool). firstOf (pick w judging [])) e
+  piece-passes e k = past-shape k ∙ ap (λ (w : Bool). firstOf (pick w judging [])) e

@@ -14,7 +14,8 @@ use Rattle.octets.specs.Octets.{Bytes}
 use Rattle.page_lacing.specs.Lacing.{endedFrom, unfinishedFrom, Cut, cutFrom}
 use Rattle.stream.specs.Page.{Page, ends, completes, wholeFrom, restFrom, whole, rest}
 use Rattle.stream.specs.State.{Carried, nothing, dropped, held, State}
-use Rattle.stream.specs.Packets.{join, seen, packetMax, tooLong, anyLong, longFrom, afterFirst, isLong}
+use Rattle.stream.specs.Packets.{join, seen, tooLong, anyLong, longFrom, afterFirst, isLong}
+use Rattle.limits.specs.Limits.{packetMax}
 use Rattle.stream.specs.Feed.{firstPiece, newRest}
 
 -- ---- tests

@@ -16,7 +16,8 @@ use Rattle.stream.specs.Readings.{Readings}
 use Rattle.stream.specs.State.{Carried, State, expecting}
 use Rattle.stream.specs.Packets.{seen}
 use Rattle.stream.specs.Rules.{Stamp, verdict, after}
-use Rattle.stream.specs.Feed.{Reader, view, entriesOn, countsOn, skipOn, Lent, isShort, Fed, fedBy}
+use Rattle.stream.specs.Feed.{Reader, view, entriesOn, countsOn, skipOn, Fed, fedBy}
+use Rattle.stream.specs.Lent.{Lent, isShort}
 use Rattle.stream.specs.Stream.{Listing}
 use Rattle.stream.specs.Feedings.{Feeding, feedIn, readerBy, readerAfter, finally, heldOf, leftIn, carryLeft, HandedOn, Shown, showAs, stream, bytesOf, Marked, allOf, marked, RoomAtMarks, isRefused, OthersRefused, tell, toldAtMarks}
 use Rattle.stream.proofs.Step.{take-held, feeds, feeds-short, stateBy, Stepped, stepped}

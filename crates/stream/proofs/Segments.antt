@@ -29,8 +29,8 @@ add-none [] = refl
 add-none (w ∷ ws) = refl
 
 -- one more value's bytes
-further : (h body : Bytes) (m v : ℕ) → (h ++ take m body) ++ take v (drop m body) ≡ h ++ take (m + v) body
-further h body m v = append-assoc h (take m body) (take v (drop m body)) ∙ ap (λ (s : Bytes). h ++ s) (sym (take-add m v body))
+taken-on : (h body : Bytes) (m v : ℕ) → (h ++ take m body) ++ take v (drop m body) ≡ h ++ take (m + v) body
+taken-on h body m v = append-assoc h (take m body) (take v (drop m body)) ∙ ap (λ (s : Bytes). h ++ s) (sym (take-add m v body))
 
 packets-cut : (h : Bytes) (m : ℕ) (l body : Bytes) → packetsFrom (h ++ take m body) (segments l (drop m body)) ≡ addFirst h (wholeFrom m l body)
 unfolding packetsFrom segments cutFrom
@@ -44,9 +44,9 @@ packets-cut h m (v ∷ l) body =
         (packetsFrom ((h ++ take m body) ++ take v (drop m body)) (segments l (drop v (drop m body))))
         ≡ addFirst h (onwards t (m + v) l body .whole)
     by true anew again =
-        rw (further h body m v, drop-drop v m body)
+        rw (taken-on h body m v, drop-drop v m body)
         (ap (λ (ws : List Bytes). (h ++ take (m + v) body) ∷ ws) (anew ∙ add-none (wholeFrom 0 l (drop (m + v) body))))
-    by false anew again = rw (further h body m v, drop-drop v m body) again
+    by false anew again = rw (taken-on h body m v, drop-drop v m body) again
 
 left-cut : (h : Bytes) (m : ℕ) (l body : Bytes)
     → leftFrom (h ++ take m body) (segments l (drop m body)) ≡ pick (ends l) (cutFrom m l body .rest) (h ++ cutFrom m l body .rest)
@@ -66,7 +66,7 @@ left-cut h m (v ∷ l) body = by (ltb v 255) (left-cut [] 0 l (drop (m + v) body
         (leftFrom ((h ++ take m body) ++ take v (drop m body)) (segments l (drop v (drop m body))))
         ≡ pick (t || ends l) (onwards t (m + v) l body .rest) (h ++ onwards t (m + v) l body .rest)
     by true anew again = rw (drop-drop v m body) (anew ∙ same (ends l) (cutFrom 0 l (drop (m + v) body) .rest))
-    by false anew again = rw (further h body m v, drop-drop v m body) again
+    by false anew again = rw (taken-on h body m v, drop-drop v m body) again
 
 -- ---- whether a packet is unfinished
 

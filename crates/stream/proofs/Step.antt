@@ -23,9 +23,11 @@ use Rattle.stream.specs.declared.Core.{Core}
 use Rattle.stream.specs.Page.{Page, pageOf, whole, rest}
 use Rattle.stream.specs.Readings.{Readings}
 use Rattle.stream.specs.State.{Carried, held, State, isEnded, expectingIn, expecting}
-use Rattle.stream.specs.Packets.{Seen, seen, packetMax, isLong}
+use Rattle.stream.specs.Packets.{Seen, seen, isLong}
+use Rattle.limits.specs.Limits.{packetMax, listMax}
+use Rattle.stream.specs.Lent.{Lent, isShort}
 use Rattle.stream.specs.Rules.{checksOn, Stamp, stamps, stampsOn, nextOn, verdict, after, stamped}
-use Rattle.stream.specs.Feed.{Reader, carriedIn, view, coreOf, stampOf, entries, entriesOn, Lent, isShort, listMax, firstPiece, appended, isLate, carryAfter, Fed, fedBy, feed}
+use Rattle.stream.specs.Feed.{Reader, carriedIn, view, coreOf, stampOf, entries, entriesOn, firstPiece, appended, isLate, carryAfter, Fed, fedBy, feed}
 use Rattle.stream.specs.Feedings.{readerBy, heldOf, tell}
 use Rattle.stream.specs.Statements.{Keeps, RefusalKeeps, CongruenceSame}
 use Rattle.stream.proofs.Pieces.{or-left, piece-fits, new-fits}
@@ -37,7 +39,7 @@ pub enough : (m : Lent) → isShort m ≡ false → packetMax ≤ length (m .car
 unfolding isShort
 enough m e = ltb-false (length (m .carry)) packetMax
     (or-left (ltb (length (m .carry)) packetMax)
-    (ltb (length (m .ends)) listMax || (ltb (length (m .sizes)) listMax || ltb (length (m .kept)) listMax)) e)
+    (ltb (length (m .ends)) listMax || (ltb (length (m .lengths)) listMax || ltb (length (m .kept)) listMax)) e)
 
 -- the state that expects the page, and its packets
 abbrev pub expected : Reader → Bytes → Bytes → State
@@ -66,7 +68,7 @@ feeds R r m b e =
     (expected r (m .carry) b) (pageOf b) (saw r (m .carry) b)) e
 
 pub feeds-short : (R : Readings) (r : Reader) (m : Lent) (b : Bytes) → isShort m ≡ true
-    → feed R r m b ≡ record { told = refuses 1; entries = []; lent = m }
+    → feed R r m b ≡ record { told = refuses (numberOf ShortRoom); entries = []; lent = m }
 unfolding feed firstOf carryAfter
 feeds-short R r m b e =
     ap (λ (t : Bool). fedBy (pick t (some ShortRoom) (firstOf (checksOn R (expected r (m .carry) b) b (saw r (m .carry) b)))) R r m
@@ -89,7 +91,7 @@ pub record Stepped (R : Readings) (r : Reader) (s : State) (b : Bytes) (v : Opti
 pub entries-stamps : (skip : ℕ) (end : Bool) (g at : ℕ) (ds : List ℕ) → map stampOf (entries skip end g at ds) ≡ stamps at ds
 unfolding entries stamps
 entries-stamps skip end g at [] = refl
-entries-stamps skip end g at (d ∷ ds) = ap (λ (l : List Stamp). record { end = at + d; size = d } ∷ l) (entries-stamps (skip - d) end g (at + d) ds)
+entries-stamps skip end g at (d ∷ ds) = ap (λ (l : List Stamp). record { end = at + d; samples = d } ∷ l) (entries-stamps (skip - d) end g (at + d) ds)
 
 -- the view after an accepted page is the state that follows
 accepted-view : (R : Readings) (r : Reader) (c b : Bytes) → packetMax ≤ length c → verdict R (view (r .core) c) b ≡ none
@@ -160,9 +162,9 @@ take-held Dropped c d e = refl
 pub gives≢refuses : {A : Type 0} {a : A} {n : ℕ} → _≡_ {A = Told A} (gives a) (refuses n) → ⊥
 gives≢refuses {A} {a} {n} e = let z : _≡_ {A = ℕ} 0 1 = cc in omega arith
 
-early-stays : (n : Refusal) (t : State) (p : Page) (c : Bytes) → numberOf n < 12 → carryAfter (some n) t p c ≡ c
+below-12-stays : (n : Refusal) (t : State) (p : Page) (c : Bytes) → numberOf n < 12 → carryAfter (some n) t p c ≡ c
 unfolding carryAfter
-early-stays n t p c h = rw (lt-leb 12 (numberOf n) h)
+below-12-stays n t p c h = rw (lt-leb 12 (numberOf n) h)
 
 keeps-by : (R : Readings) (r : Reader) (m : Lent) (b : Bytes) (n : ℕ) → packetMax ≤ length (m .carry) → (v : Option Refusal)
     → verdict R (view (r .core) (m .carry)) b ≡ v
@@ -174,9 +176,9 @@ keeps-by R r m b n room (some k) e h =
     record {
       held = held-take (r .core .pending) _ _ (refused-held R r (m .carry) b k room e);
       room = length-carry (some k) (expected r (m .carry) b) (pageOf b) (m .carry);
-      early = λ small. early-stays k (expected r (m .carry) b) (pageOf b) (m .carry) (omega arith);
+      untouched = λ small. below-12-stays k (expected r (m .carry) b) (pageOf b) (m .carry) (omega arith);
       ends = refl;
-      sizes = refl;
+      lengths = refl;
       kept = refl;
     }
 
@@ -186,7 +188,7 @@ refusal-keeps R r m b n h = by (isShort m) refl
     by : (t : Bool) → isShort m ≡ t → Keeps r m (feed R r m b .lent) n
     by true e =
         subst (λ (f : Fed). Keeps r m (f .lent) n) (sym (feeds-short R r m b e))
-        (record { held = refl; room = refl; early = λ small. refl; ends = refl; sizes = refl; kept = refl })
+        (record { held = refl; room = refl; untouched = λ small. refl; ends = refl; lengths = refl; kept = refl })
     by false e =
         subst (λ (f : Fed). Keeps r m (f .lent) n) (sym (feeds R r m b e))
         (keeps-by R r m b n (enough m e) (verdict R (view (r .core) (m .carry)) b) refl (sym (ap (λ (f : Fed). f .told) (feeds R r m b e)) ∙ h))

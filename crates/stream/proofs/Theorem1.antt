@@ -18,7 +18,7 @@ use Rattle.stream.specs.State.{Carried, nothing, State, expecting}
 use Rattle.stream.specs.Packets.{seen, audioPackets, lengthsOf}
 use Rattle.stream.specs.Rules.{firstPacket, nextOn, verdict, after}
 use Rattle.stream.specs.Feed.{start, entries, entriesOn, countsOn, skipOn}
-use Rattle.stream.specs.Stream.{segmentsOf, leftFrom, openFrom, openAfter, leftAfter, carriedOf, headOf, afterComment, audioPages, phaseOf, serialOf, marksFrom, marks, positionFrom, decodedIn, Listing, silent, listings}
+use Rattle.stream.specs.Stream.{segmentsOf, leftFrom, openFrom, openAfter, leftAfter, carriedOf, headOf, afterComment, audioPages, phaseOf, serialOf, marksFrom, marks, positionFrom, decodedIn, Listing, nothingListed, listings}
 use Rattle.stream.specs.Feedings.{Feeding, finally, carryLeft, HandedOn, Shown, stream, bytesIn, bytesOf}
 use Rattle.stream.specs.Statements.{viewOf, StreamState}
 use Rattle.stream.proofs.Segments.{begun-left, joins}
@@ -58,9 +58,9 @@ module _ (R : Readings) (b : Bytes) (bs : List Bytes) where
   unfolding skipOn nextOn expecting seen headOf
   first-skip = ap (λ (ws : List Bytes). R .headOf (firstPacket ws) .preskip) (joins false [] page (λ w. refl) .packets)
 
-  first-silent : listingOn R 0 fresh b ≡ silent
+  first-lists-nothing : listingOn R 0 fresh b ≡ nothingListed
   unfolding entriesOn countsOn entries lengthsOf audioPackets expecting total keptOf skippedOf trimmedOf tally
-  first-silent = refl
+  first-lists-nothing = refl
 
 -- ---- the stream
 
@@ -106,7 +106,7 @@ whole R (x ∷ xs) f =
       arrives = subst (λ (s : State). Arrived R head (p .header .serial) (afterAll R s bs) (afterComment bytesIn xs)) (sym same) (k .arrives);
       state = ap (λ (s : State). afterAll R s bs) same ∙ k .state ∙ ap (end R (b ∷ bs)) count;
       skips = ap₂ (λ (s : State) (j : ℕ). skipAll R s j bs) same skip ∙ k .skips;
-      listings = ap₂ (λ (a : Listing) (l : List Listing). a ∷ l) (f .1 ∙ first-silent R b bs) (k .listings);
+      listings = ap₂ (λ (a : Listing) (l : List Listing). a ∷ l) (f .1 ∙ first-lists-nothing R b bs) (k .listings);
     }
 
 -- ---- from feedings

@@ -15,11 +15,11 @@ use Rattle.stream.specs.State.{nothing, dropped, State, expecting}
 use Rattle.stream.specs.Rules.{stampsOn, afterPosition, verdict, after, stamped}
 use Rattle.stream.specs.Feed.{view, start, openAt, stampOf, entriesOn}
 use Rattle.stream.specs.Stream.{segmentsOf, leftFrom, openFrom, openAfter, carriedOf, headOf, serialOf, Listing}
-use Rattle.stream.specs.Feedings.{Feeding, HandedOn, Shown, stream, bytesOf, joinedFrom, joined, stood}
+use Rattle.stream.specs.Feedings.{Feeding, HandedOn, Shown, stream, bytesOf, joinedFrom, joined, hasPosition}
 use Rattle.stream.specs.Statements.{audioIn, openedIn, Demand3, Demand3State, ContinuedSays}
 use Rattle.stream.proofs.Step.{entries-stamps}
 use Rattle.stream.proofs.Segments.{Begun, begun-left, carried-open}
-use Rattle.stream.proofs.Meeting.{audio, isDropped, Near, both-none, cut-off, NotJoined}
+use Rattle.stream.proofs.TwoReaders.{audio, isDropped, Near, both-none, cut-off, NotJoined}
 use Rattle.stream.proofs.Joining.{afterAll, toldAll, afterTold, Follows, ended-none, page-joined, page-state, sim, sim-state}
 use Rattle.stream.proofs.Runs.{Lists, runs, second}
 use Rattle.stream.proofs.AudioRun.{Expected, expected, audio-after}
@@ -37,7 +37,7 @@ record Ready (R : Readings) (head : Head) (end : State) (o : Bool) (xs : List Sh
   begun : Begun o h
   stands : NotJoined position
   follows : Follows R (audio ended (carriedOf o h) position serial next head) xs
-  ends : stood xs ≡ true → afterAll R (audio ended (carriedOf o h) position serial next head) (bytesOf xs) ≡ end
+  ends : hasPosition xs ≡ true → afterAll R (audio ended (carriedOf o h) position serial next head) (bytesOf xs) ≡ end
 
 lists-follows : (R : Readings) (s : State) (skip : ℕ) (xs : List Shown) → Lists R s skip xs → Follows R s xs
 unfolding stamped stampsOn entriesOn
@@ -58,9 +58,9 @@ or-true false b e = e
 ready-on : (R : Readings) (head : Head) (end : State) (x : Shown) (xs : List Shown) (ended o : Bool) (h : Bytes) (position : Position)
     (serial next : ℕ)
     → Begun o h → NotJoined position → Follows R (audio ended (carriedOf o h) position serial next head) (x ∷ xs)
-    → (stood (x ∷ xs) ≡ true → afterAll R (audio ended (carriedOf o h) position serial next head) (bytesOf (x ∷ xs)) ≡ end)
+    → (hasPosition (x ∷ xs) ≡ true → afterAll R (audio ended (carriedOf o h) position serial next head) (bytesOf (x ∷ xs)) ≡ end)
     → Ready R head end (openFrom o (segmentsOf (pageOf (x .bytes)))) xs
-unfolding afterAll stood
+unfolding afterAll hasPosition
 ready-on R head end x xs true o h position serial next k n f g = absurd (ended-none R head (carriedOf o h) position serial next (x .bytes) (f .0))
 ready-on R head end x xs false o h position serial next k n f g =
     let p : Page = pageOf (x .bytes) in
@@ -77,7 +77,7 @@ ready-on R head end x xs false o h position serial next k n f g =
       begun = begun-left o h (segmentsOf p) k;
       stands = stands-on (completes p) position (granuleOf p) n;
       follows = subst (λ (s : State). Follows R s xs) same (f .2);
-      ends = λ t. ap (λ (s : State). afterAll R s (bytesOf xs)) (sym same) ∙ g (or-true (completes p && not (last p)) (stood xs) t);
+      ends = λ t. ap (λ (s : State). afterAll R s (bytesOf xs)) (sym same) ∙ g (or-true (completes p && not (last p)) (hasPosition xs) t);
     }
 
 ready-drop : (R : Readings) (head : Head) (end : State) (j : ℕ) (o : Bool) (xs : List Shown) → Ready R head end o xs
@@ -149,7 +149,7 @@ module _ (R : Readings) (head : Head) (x : Shown) (xs : List Shown) (o : Bool) (
       (near-first o h (continued page) continued-is) stands at-page (sim R head xs)
       ∙ ap (λ (t : Bool). joinedFrom t false (x ∷ xs)) (drops-first (continued page) ∙ continued-is)
 
-  pub opened-end : (d : Bytes) → stood (x ∷ xs) ≡ true
+  pub opened-end : (d : Bytes) → hasPosition (x ∷ xs) ≡ true
       → afterTold R (view (openAt head .core) d) (bytesOf (x ∷ xs))
       ≡ afterAll R (audio false (carriedOf o h) position serial next head) (bytesOf (x ∷ xs))
   unfolding verdict stamped after expecting
@@ -172,9 +172,9 @@ opened-told R head end d o (x ∷ xs) k = by (k .ended) (k .follows)
     by true f = absurd (ended-none R head (carriedOf o (k .h)) (k .position) (k .serial) (k .next) (x .bytes) (f .0))
     by false f = opened-first R head x xs o (k .h) (k .position) (k .serial) (k .next) (k .stands) f d
 
-opened-state : (R : Readings) (head : Head) (end : State) (d : Bytes) (o : Bool) (xs : List Shown) → Ready R head end o xs → stood xs ≡ true
+opened-state : (R : Readings) (head : Head) (end : State) (d : Bytes) (o : Bool) (xs : List Shown) → Ready R head end o xs → hasPosition xs ≡ true
     → afterTold R (view (openAt head .core) d) (bytesOf xs) ≡ end
-unfolding stood
+unfolding hasPosition
 opened-state R head end d o [] k t = absurd (false≢true t)
 opened-state R head end d o (x ∷ xs) k t = by (k .ended) (k .follows) ∙ k .ends t
   where
@@ -200,18 +200,18 @@ continued-says R F j x later handed e =
     by o k false f = continued-is R (headOf R (bytesOf (stream R start F))) x later o (k .h) (k .position) (k .serial) (k .next) (k .stands) f
 
 pub demand-3 : Demand3
-demand-3 R F j M first handed room same others =
+demand-3 R F j M followed =
     let S : List Shown = stream R start F in
-    second R M (openedIn R F) [] handed room others .told
-    ∙ ap (toldAll R (view (openedIn R F .core) [])) same
+    second R M (openedIn R F) [] (followed .second) (followed .room) (followed .others) .told
+    ∙ ap (toldAll R (view (openedIn R F .core) [])) (followed .pages)
     ∙ opened-told R (headOf R (bytesOf S)) (afterAll R fresh (bytesOf S)) [] (openAfter false (bytesOf (take j (audioIn R F))))
-    (drop j (audioIn R F)) (ready-at R F j first)
+    (drop j (audioIn R F)) (ready-at R F j (followed .first))
 
 pub demand-3-state : Demand3State
-demand-3-state R F j M first handed room same others t =
+demand-3-state R F j M followed t =
     let S : List Shown = stream R start F in
-    second R M (openedIn R F) [] handed room others .state
-    ∙ ap (afterTold R (view (openedIn R F .core) [])) same
+    second R M (openedIn R F) [] (followed .second) (followed .room) (followed .others) .state
+    ∙ ap (afterTold R (view (openedIn R F .core) [])) (followed .pages)
     ∙ opened-state R (headOf R (bytesOf S)) (afterAll R fresh (bytesOf S)) [] (openAfter false (bytesOf (take j (audioIn R F))))
-    (drop j (audioIn R F)) (ready-at R F j first) t
-    ∙ sym (runs R F start [] first .state)
+    (drop j (audioIn R F)) (ready-at R F j (followed .first)) t
+    ∙ sym (runs R F start [] (followed .first) .state)

@@ -22,12 +22,12 @@ use Rattle.stream.specs.State.{State, expecting}
 use Rattle.stream.specs.Packets.{seen}
 use Rattle.stream.specs.Rules.{afterPosition, verdict}
 use Rattle.stream.specs.Feed.{start, Entry}
-use Rattle.stream.specs.Stream.{segmentsOf, leftFrom, openFrom, carriedOf, headOf, afterComment, audioPages, Mark, decoded, lengthsFrom, markFrom, marksFrom, marks, holesFrom, decodedIn, sampleTrimmed, sampleSkipped, sampleKept, countFrom, Listing, silent, entriesFrom, listingFrom, audioListings, commentListings, listings, serialOf}
+use Rattle.stream.specs.Stream.{segmentsOf, leftFrom, openFrom, carriedOf, headOf, afterComment, audioPages, Mark, decoded, lengthsFrom, markFrom, marksFrom, marks, holesFrom, decodedIn, sampleTrimmed, sampleSkipped, sampleKept, countFrom, Listing, nothingListed, entriesFrom, listingFrom, audioListings, commentListings, listings, serialOf}
 use Rattle.stream.specs.Feedings.{Shown, stream, bytesIn, bytesOf}
 use Rattle.stream.specs.Statements.{StreamCounts}
 use Rattle.stream.proofs.Passed.{timed}
 use Rattle.stream.proofs.Segments.{Begun, begun-left}
-use Rattle.stream.proofs.Meeting.{audio}
+use Rattle.stream.proofs.TwoReaders.{audio}
 use Rattle.stream.proofs.Joining.{afterAll, ended-none}
 use Rattle.stream.proofs.Runs.{Lists, skipIn}
 use Rattle.stream.proofs.AudioRun.{no-samples, here-lengths, here-completes, audio-after}
@@ -52,7 +52,7 @@ module _ (R : Readings) (head : Head) (f : Listing → ℕ) (over : ℕ → Posi
     (done : (n : ℕ) (position : Position) (m : Mark) (ms : List Mark)
     → over n position (m ∷ ms) ≡ f (listingFrom (head .preskip) position n true m) + over (n + decoded m) (At (m .granule)) ms)
     (going : (n : ℕ) (position : Position) (m : Mark) → decoded m ≡ 0 → f (listingFrom (head .preskip) position n false m) ≡ 0)
-    (quiet : f silent ≡ 0) where
+    (nothing-told : f nothingListed ≡ 0) where
   sum-audio : (bs : List Bytes) (h : Bytes) (position : Position) (n : ℕ)
       → sum f (audioListings R head h position n bs) ≡ over n position (marksFrom R (head .streams) h bs)
   unfolding audioListings marksFrom total
@@ -83,7 +83,7 @@ module _ (R : Readings) (head : Head) (f : Listing → ℕ) (over : ℕ → Posi
   unfolding commentListings afterComment total marksFrom
   sum-comments [] = sym (empty 0 Unset)
   sum-comments (b ∷ bs) =
-      ap (λ (z : ℕ). z + sum f (pick (completes (pageOf b)) (audioListings R head [] Unset 0 bs) (commentListings R head bs))) quiet
+      ap (λ (z : ℕ). z + sum f (pick (completes (pageOf b)) (audioListings R head [] Unset 0 bs) (commentListings R head bs))) nothing-told
       ∙ zero-add (sum f (pick (completes (pageOf b)) (audioListings R head [] Unset 0 bs) (commentListings R head bs)))
       ∙ by (completes (pageOf b)) (sum-audio bs [] Unset 0) (sum-comments bs)
     where
@@ -100,17 +100,17 @@ sum-stream : (R : Readings) (bs : List Bytes) (f : Listing → ℕ) (over : ℕ 
     → ((n : ℕ) (position : Position) (m : Mark) (ms : List Mark)
     → over n position (m ∷ ms) ≡ f (listingFrom (headOf R bs .preskip) position n true m) + over (n + decoded m) (At (m .granule)) ms)
     → ((n : ℕ) (position : Position) (m : Mark) → decoded m ≡ 0 → f (listingFrom (headOf R bs .preskip) position n false m) ≡ 0)
-    → f silent ≡ 0 → sum f (listings R bs) ≡ over 0 Unset (marks R bs)
+    → f nothingListed ≡ 0 → sum f (listings R bs) ≡ over 0 Unset (marks R bs)
 unfolding listings marks audioPages total marksFrom
-sum-stream R [] f over empty done going quiet = sym (empty 0 Unset)
-sum-stream R (b ∷ bs) f over empty done going quiet =
-    ap (λ (z : ℕ). z + sum f (commentListings R (headOf R (b ∷ bs)) bs)) quiet ∙ zero-add (sum f (commentListings R (headOf R (b ∷ bs)) bs))
-    ∙ sum-comments R (headOf R (b ∷ bs)) f over empty done going quiet bs
+sum-stream R [] f over empty done going nothing-told = sym (empty 0 Unset)
+sum-stream R (b ∷ bs) f over empty done going nothing-told =
+    ap (λ (z : ℕ). z + sum f (commentListings R (headOf R (b ∷ bs)) bs)) nothing-told ∙ zero-add (sum f (commentListings R (headOf R (b ∷ bs)) bs))
+    ∙ sum-comments R (headOf R (b ∷ bs)) f over empty done going nothing-told bs
 
 -- ---- the kept counts of a page's entries are the count over the page
 
-kept-further : (k n : ℕ) (m : Mark) (at d j : ℕ) → sampleKept k n m at (d + j) ≡ sampleKept k (n + d) m (at + d) j
-kept-further k n m at d j =
+kept-later : (k n : ℕ) (m : Mark) (at d j : ℕ) → sampleKept k n m at (d + j) ≡ sampleKept k (n + d) m (at + d) j
+kept-later k n m at d j =
     let a : at + suc (d + j) ≡ at + d + suc j = omega arith in
     ap₂ (λ (x y : ℕ). not (m .last && ltb (m .granule) x) && not (ltb y k)) a (sym (add-assoc n d j))
 
@@ -121,7 +121,7 @@ entries-kept k n m at [] = refl
 entries-kept k n m at (d ∷ ds) =
     ap (λ (z : ℕ). tally (sampleKept k n m at) d + z)
     (entries-kept k (n + d) m (at + d) ds
-    ∙ sym (tally-same (λ (j : ℕ). sampleKept k n m at (d + j)) (sampleKept k (n + d) m (at + d)) (kept-further k n m at d) (total ds)))
+    ∙ sym (tally-same (λ (j : ℕ). sampleKept k n m at (d + j)) (sampleKept k (n + d) m (at + d)) (kept-later k n m at d) (total ds)))
     ∙ sym (tally-parts (sampleKept k n m at) d (total ds))
 
 -- ---- the marks are legal

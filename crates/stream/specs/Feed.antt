@@ -10,7 +10,7 @@ use lib.ListN.{length, take, drop}
 use Rattle.octets.specs.Pick.{pick}
 use Rattle.octets.specs.Octets.{Bytes, total, copied}
 use Rattle.refusal.specs.declared.Refusal.{Refusal}
-use Rattle.refusal.specs.declared.Refusal.the-variants.{ShortRoom, UnfitFields}
+use Rattle.refusal.specs.declared.Refusal.the-variants.{ShortRoom, BadHead, UnfitFields}
 use Rattle.refusal.specs.Checks.{Check, _when_, firstOf}
 use Rattle.refusal.specs.Told.{Told, gives, refuses, decided}
 use Rattle.refusal.specs.Numbers.{numberOf}
@@ -26,11 +26,14 @@ use Rattle.stream.specs.declared.Pending.the-variants.{Nothing, Held, Dr
 use Rattle.stream.specs.declared.Core.{Core}
 use Rattle.stream.specs.declared.Tally.{Tally}
 use Rattle.stream.specs.declared.Counts.{Counts}
+use Rattle.stream.specs.declared.PageFed.{PageFed}
+use Rattle.stream.specs.declared.PageFed.the-variants.{Accepted, Refused}
+use Rattle.stream.specs.Lent.{Lent, isShort}
 use Rattle.stream.specs.Page.{Page, pageOf, last, granuleOf, whole, rest}
 use Rattle.stream.specs.Readings.{Readings}
 use Rattle.stream.specs.State.{Carried, nothing, dropped, held, State, isComment, expecting}
-use Rattle.stream.specs.Packets.{Seen, seen, packetMax, lengthsOf}
-use Rattle.stream.specs.Rules.{sounds, checksOn, Stamp, startOn, nextOn}
+use Rattle.stream.specs.Packets.{Seen, seen, lengthsOf}
+use Rattle.stream.specs.Rules.{audioCompletes, checksOn, Stamp, startOn, nextOn}
 
 pub record Reader : Type 0 where
   pub core : Core
@@ -107,17 +110,17 @@ openPartWay h = decided (firstOf (openChecks h)) (openAt h)
 
 pub record Entry : Type 0 where
   pub end : ℕ
-  pub size : ℕ
+  pub samples : ℕ
   pub kept : ℕ
 
 abbrev pub stampOf : Entry → Stamp
-stampOf e = record { end = e .end; size = e .size }
+stampOf e = record { end = e .end; samples = e .samples }
 
 -- packets of these lengths on a page with granule g, the first beginning after `at` with `skip` samples still to skip
 unfoldable pub entries : ℕ → Bool → ℕ → ℕ → List ℕ → List Entry
 entries skip end g at [] = []
 entries skip end g at (d ∷ ds) =
-    record { end = at + d; size = d; kept = keptOf skip end g at d } ∷ entries (skip - d) end g (at + d) ds
+    record { end = at + d; samples = d; kept = keptOf skip end g at d } ∷ entries (skip - d) end g (at + d) ds
 
 unfoldable pub entriesOn : Readings → ℕ → State → Page → Seen → List Entry
 entriesOn R skip s p x = entries skip (last p) (granuleOf p) (startOn R s p x) (lengthsOf R s x)
@@ -130,7 +133,7 @@ countsOn R skip s p x = record {
   kept = keptOf skip (last p) (granuleOf p) (startOn R s p x) (total (lengthsOf R s x));
   skipped = skippedOf skip (last p) (granuleOf p) (startOn R s p x) (total (lengthsOf R s x));
   trimmed = trimmedOf (last p) (granuleOf p) (startOn R s p x) (total (lengthsOf R s x));
-  hole = pick (sounds s x) (hole (s .position) (granuleOf p) (total (lengthsOf R s x))) 0;
+  hole = pick (audioCompletes s x) (hole (s .position) (granuleOf p) (total (lengthsOf R s x))) 0;
 }
 
 -- the record of a page that lists nothing
@@ -148,27 +151,7 @@ skipAfter Ended preskip skip d = skip
 unfoldable pub skipOn : Readings → ℕ → State → Page → Seen → ℕ
 skipOn R skip s p x = skipAfter (s .phase) (nextOn R s p x .preskip) skip (total (lengthsOf R s x))
 
--- ---- lent memory
-
-pub record Lent : Type 0 where
-  pub carry : Bytes
-  pub ends : List ℕ
-  pub sizes : List ℕ
-  pub kept : List ℕ
-
-abbrev pub listMax : ℕ
-listMax = 255
-
-abbrev pub lentOf : Bytes → List ℕ → List ℕ → List ℕ → Lent
-lentOf carry ends sizes kept = record { carry = carry; ends = ends; sizes = sizes; kept = kept }
-
--- 1, by the lengths of what is lent
-abbrev pub shortBy : ℕ → ℕ → ℕ → ℕ → Bool
-shortBy carry ends sizes kept = ltb carry packetMax || (ltb ends listMax || (ltb sizes listMax || ltb kept listMax))
-
--- 1
-unfoldable pub isShort : Lent → Bool
-isShort m = shortBy (length (m .carry)) (length (m .ends)) (length (m .sizes)) (length (m .kept))
+-- ---- the carry buffer and the lists at the end
 
 -- the first piece on the page
 abbrev pub firstPiece : List Bytes → Option Bytes → Bytes
@@ -197,7 +180,7 @@ withRest (some b) carry = copied carry 0 b
 
 -- the refusals under which the continuing piece is in the carry buffer: 12 to 19
 abbrev pub isLate : Refusal → Bool
-isLate n = leb 12 (numberOf n)
+isLate n = leb (numberOf BadHead) (numberOf n)
 
 -- what the carry buffer holds at the end, s being the state that expected the page
 unfoldable pub carryAfter : Option Refusal → State → Page → Bytes → Bytes
@@ -222,17 +205,15 @@ pub record Fed : Type 0 where
   pub entries : List Entry
   pub lent : Lent
 
--- 1 is told, and all stays
-abbrev pub unfed : Lent → Fed
-unfed m = record { told = refuses (numberOf ShortRoom); entries = []; lent = m }
-
--- what was told, and the carry buffer and the three lists at the end, are those of f
-pub record FedIs (f : Fed) (t : Told Taken) (carry : Bytes) (ends sizes kept : List ℕ) : Type 0 where
+-- what was told, and the lent memory at the end, are those of f
+pub record FedIs (f : Fed) (t : Told Taken) (after : Lent) : Type 0 where
   pub told : t ≡ f .told
-  pub held : carry ≡ f .lent .carry
-  pub ended : ends ≡ f .lent .ends
-  pub sized : sizes ≡ f .lent .sizes
-  pub keeps : kept ≡ f .lent .kept
+  pub lent : after ≡ f .lent
+
+-- of a call that feeds only where it is `due`: the answer and the memory are those of f, or nothing is told and all stays
+pub record FedWhen (due : Bool) (f : Fed) (t : Option (Told Taken)) (before after : Lent) : Type 0 where
+  pub told : t ≡ pick due (some (f .told)) none
+  pub lent : after ≡ pick due (f .lent) before
 
 -- by the refusal or none; t is the state that expects the page, x the page's packets
 abbrev pub fedBy : Option Refusal → Readings → Reader → Lent → State → Page → Seen → Fed
@@ -245,14 +226,14 @@ fedBy none R r m t p x = record {
   lent = record {
     carry = carryAfter none t p (m .carry);
     ends = listed (λ (e : Entry). e .end) (entriesOn R (r .tally .skip) t p x) (m .ends);
-    sizes = listed (λ (e : Entry). e .size) (entriesOn R (r .tally .skip) t p x) (m .sizes);
+    lengths = listed (λ (e : Entry). e .samples) (entriesOn R (r .tally .skip) t p x) (m .lengths);
     kept = listed (λ (e : Entry). e .kept) (entriesOn R (r .tally .skip) t p x) (m .kept);
   };
 }
 fedBy (some n) R r m t p x = record {
   told = refuses (numberOf n);
   entries = [];
-  lent = record { carry = carryAfter (some n) t p (m .carry); ends = m .ends; sizes = m .sizes; kept = m .kept };
+  lent = record { carry = carryAfter (some n) t p (m .carry); ends = m .ends; lengths = m .lengths; kept = m .kept };
 }
 
 -- 1 to 19, in the order of document 01's table
@@ -266,3 +247,12 @@ unfoldable pub feed : Readings → Reader → Lent → Bytes → Fed
 feed R r m b =
     feedOn R r m (expecting (view (r .core) (m .carry)) (pageOf b)) b
     (seen (expecting (view (r .core) (m .carry)) (pageOf b)) (pageOf b))
+
+-- the contract of feeding: the bytes `page` are fed to the reader r with the memory `before`; t is told, and `after` is left
+abbrev pub Feeds : Readings → Reader → Bytes → Lent → Told Taken → Lent → Type 0
+Feeds R r page before t after = FedIs (feed R r before page) t after
+
+-- what the code's answer tells
+abbrev pub toldPage : PageFed → Told Taken
+toldPage (Accepted core tally counts) = gives (record { reader = readerOf core tally; counts = counts })
+toldPage (Refused why) = refuses (numberOf why)

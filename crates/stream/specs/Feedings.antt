@@ -8,13 +8,16 @@ use lib.Dec.{T}
 use lib.ListN.{take}
 use Rattle.octets.specs.Pick.{pick}
 use Rattle.octets.specs.Octets.{Bytes}
+use Rattle.refusal.specs.declared.Refusal.the-variants.{NoPosition}
+use Rattle.refusal.specs.Numbers.{numberOf}
 use Rattle.refusal.specs.Told.{Told, gives, refuses, retold}
 use Rattle.stream.specs.declared.Pending.{Pending}
 use Rattle.stream.specs.declared.Pending.the-variants.{Nothing, Held, Dropped}
 use Rattle.stream.specs.Page.{pageOf, completes, last}
 use Rattle.stream.specs.Readings.{Readings}
 use Rattle.stream.specs.Rules.{Stamp}
-use Rattle.stream.specs.Feed.{Reader, Entry, stampOf, Lent, isShort, Taken, Fed, feed}
+use Rattle.stream.specs.Feed.{Reader, Entry, stampOf, Taken, Fed, feed}
+use Rattle.stream.specs.Lent.{Lent, isShort}
 use Rattle.stream.specs.Stream.{Listing}
 
 -- each brings its own bytes and lent memory
@@ -134,23 +137,23 @@ dropIf b [] = []
 dropIf true (x ∷ xs) = xs
 dropIf false (x ∷ xs) = x ∷ xs
 
--- `early`: the first packet to complete began before the first of these pages. `stood`: an earlier one of them completed a
+-- `began`: the first packet to complete began before the first of these pages. `placed`: an earlier one of them completed a
 -- packet. 19 where the page is marked last, completes a packet, and none did so before; else the first reader's list, less
 -- the packet that began before.
 unfoldable pub joinedFrom : Bool → Bool → List Shown → List (Told (List Stamp))
-joinedFrom early stood [] = []
-joinedFrom early true (x ∷ xs) = gives (stampsOf x) ∷ joinedFrom early true xs
-joinedFrom early false (x ∷ xs) =
+joinedFrom began placed [] = []
+joinedFrom began true (x ∷ xs) = gives (stampsOf x) ∷ joinedFrom began true xs
+joinedFrom began false (x ∷ xs) =
     pick (completes (pageOf (x .bytes)))
     (pick (last (pageOf (x .bytes)))
-    (refuses 19 ∷ joinedFrom early false xs)
-    (gives (dropIf early (stampsOf x)) ∷ joinedFrom early true xs))
-    (gives (stampsOf x) ∷ joinedFrom early false xs)
+    (refuses (numberOf NoPosition) ∷ joinedFrom began false xs)
+    (gives (dropIf began (stampsOf x)) ∷ joinedFrom began true xs))
+    (gives (stampsOf x) ∷ joinedFrom began false xs)
 
 abbrev pub joined : Bool → List Shown → List (Told (List Stamp))
-joined early xs = joinedFrom early false xs
+joined began xs = joinedFrom began false xs
 
--- one of these pages gave a granule position to stand on, and was not the last
-unfoldable pub stood : List Shown → Bool
-stood [] = false
-stood (x ∷ xs) = (completes (pageOf (x .bytes)) && not (last (pageOf (x .bytes)))) || stood xs
+-- one of these pages gave a granule position, and was not the last
+unfoldable pub hasPosition : List Shown → Bool
+hasPosition [] = false
+hasPosition (x ∷ xs) = (completes (pageOf (x .bytes)) && not (last (pageOf (x .bytes)))) || hasPosition xs

@@ -1,10 +1,11 @@
 pub mod Page
 pub mod Readings
 pub mod State
+pub mod Shape
 pub mod Packets
 pub mod Rules
+pub mod Lent
 pub mod Feed
 pub mod Stream
 pub mod Feedings
 pub mod Statements
-pub mod Example

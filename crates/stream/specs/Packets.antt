@@ -7,6 +7,7 @@ use lib.Dec.{ltb}
 use lib.ListN.{length}
 use Rattle.octets.specs.Pick.{pick}
 use Rattle.octets.specs.Octets.{Bytes}
+use Rattle.limits.specs.Limits.{packetMax}
 use Rattle.page_lacing.specs.Lacing.{endedFrom, unfinishedFrom}
 use Rattle.stream.specs.Page.{Page, whole, rest}
 use Rattle.stream.specs.Readings.{Readings}
@@ -38,9 +39,6 @@ unfoldable pub seen : State → Page → Seen
 seen s p = join (s .carried) (whole p) (rest p)
 
 -- ---- 9, on the lacing values
-
-abbrev pub packetMax : ℕ
-packetMax = 61440
 
 abbrev pub tooLong : ℕ → Bool
 tooLong n = ltb packetMax n

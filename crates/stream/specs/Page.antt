@@ -1,12 +1,13 @@
 -- A page as feeding sees it: its fields, its lacing values and its body, and the pieces of packets in it (RFC 3533, 5 and 6;
 -- document 01, "Page and lacing"). Assumes nothing.
-use Prim.Native.Nat.{ℕ, _/_, _%_}
+use Prim.Native.Nat.{ℕ}
 use mathlib.Core.Bool.{Bool, false, _||_}
 use mathlib.Core.List.{List, [], _∷_}
 use mathlib.Core.Option.{Option, none, some}
 use lib.Dec.{ltb, eqb}
 use Rattle.octets.specs.Pick.{pick}
 use Rattle.octets.specs.Octets.{Bytes}
+use Rattle.page_flags.specs.Flags.{isContinued, isLastPage}
 use Rattle.page_layout.specs.declared.PageHeader.{PageHeader}
 use Rattle.page_layout.specs.Page.{headerOf, lacingOf, bodyOf}
 use Rattle.page_lacing.specs.Lacing.{cutFrom, unfinishedFrom}
@@ -22,16 +23,6 @@ pageWith h lacing body = record { header = h; lacing = lacing; body = body }
 
 unfoldable pub pageOf : Bytes → Page
 pageOf b = record { header = headerOf b; lacing = lacingOf b; body = bodyOf b }
-
--- flags: 1 continued, 2 first, 4 last
-abbrev pub isContinued : ℕ → Bool
-isContinued flags = eqb (flags % 2) 1
-
-abbrev pub isFirstPage : ℕ → Bool
-isFirstPage flags = eqb (flags / 2 % 2) 1
-
-abbrev pub isLastPage : ℕ → Bool
-isLastPage flags = eqb (flags / 4 % 2) 1
 
 unfoldable pub continued : Page → Bool
 continued p = isContinued (p .header .flags)

@@ -15,7 +15,7 @@ use Rattle.packet_reader.specs.Streams.{lengthsOf, isIllegal, isMixed, firstLen
 
 pub record Readings : Type 0 where
   pub isPage : Bytes → Bool  -- exactly one whole page, of version 0 (3)
-  pub isSealed : Bytes → Bool  -- its checksum is right (4)
+  pub isChecksummed : Bytes → Bool  -- its checksum is right (4)
   pub isHead : Bytes → Bool  -- an identification header right in signature, version and length (12)
   pub isMapped : Bytes → Bool  -- its channel mapping is right (13)
   pub headOf : Bytes → Head
@@ -29,7 +29,7 @@ pub record Readings : Type 0 where
 unfoldable pub readings : (Bytes → ℕ) → Readings
 readings crc = record {
   isPage = isOnePage;
-  isSealed = λ (b : Bytes). eqb (crc b) (checksumOf b);
+  isChecksummed = λ (b : Bytes). eqb (crc b) (checksumOf b);
   isHead = isHead;
   isMapped = λ (b : Bytes). rightMapping (headOf b);
   headOf = headOf;

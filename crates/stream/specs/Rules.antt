@@ -9,16 +9,21 @@ use lib.Dec.{ltb, eqb}
 use Rattle.octets.specs.Pick.{pick}
 use Rattle.octets.specs.Octets.{Bytes, total}
 use Rattle.refusal.specs.declared.Refusal.{Refusal}
-use Rattle.refusal.specs.declared.Refusal.the-variants.{AfterEnd, NotOnePage, WrongChecksum, OtherSerial, OutOfSequence, WrongFlags, WrongContinued, PacketTooLong, HeaderShape, WrongGranule, BadHead, BadMapping, BadTags, IllegalPacket, MixedLengths}
+use Rattle.refusal.specs.declared.Refusal.the-variants.{AfterEnd, NotOnePage, WrongChecksum, OtherSerial, OutOfSequence}
+use Rattle.refusal.specs.declared.Refusal.the-variants.{WrongFlags, WrongContinued, PacketTooLong, HeaderShape, WrongGranule}
+use Rattle.refusal.specs.declared.Refusal.the-variants.{BadHead, BadMapping, BadTags, IllegalPacket, MixedLengths}
 use Rattle.refusal.specs.Checks.{Check, _when_, firstOf}
 use Rattle.granule.specs.declared.Position.{Position}
 use Rattle.granule.specs.declared.Position.the-variants.{At}
-use Rattle.granule.specs.Judging.{judgeChecks, from}
+use Rattle.granule.specs.Judging.{granuleMax, granuleWrong, judgeChecks, from}
 use Rattle.stream.specs.declared.Phase.{Phase}
 use Rattle.stream.specs.declared.Phase.the-variants.{First, Comment, Audio, Opened, Ended}
-use Rattle.stream.specs.Page.{Page, pageOf, isFirstPage, isLastPage, continued, last, granuleOf, whole, rest}
+use Rattle.page_flags.specs.Flags.{isFirstPage, isLastPage}
+use Rattle.page_layout.specs.declared.PageHeader.{PageHeader}
+use Rattle.stream.specs.Page.{Page, pageOf, continued, last, granuleOf}
 use Rattle.stream.specs.Readings.{Readings}
 use Rattle.stream.specs.State.{State, isFirst, isComment, isEnded, inHeaders, unfinished, expecting}
+use Rattle.stream.specs.Shape.{shapeOf, wrongShape}
 use Rattle.stream.specs.Packets.{Seen, seen, isLong, audioPackets, lengthsOf}
 
 -- ---- the tests
@@ -28,43 +33,23 @@ unfoldable pub wrongFlags : Phase → ℕ → Bool
 wrongFlags ph flags =
     ltb 7 flags || (not (Bool·beq (isFirstPage flags) (isFirst ph)) || (inHeaders ph && isLastPage flags))
 
--- the page is one packet's piece and nothing else
-abbrev pub onePiece : List Bytes → Option Bytes → Bool
-onePiece [] none = false
-onePiece [] (some b) = true
-onePiece (b ∷ []) none = true
-onePiece (b ∷ []) (some c) = false
-onePiece (b ∷ (c ∷ bs)) r = false
-
--- 10: the first page is not one completed packet; a page of the comment packet has anything else, or nothing
-unfoldable pub wrongShape : Phase → Page → Seen → Bool
-wrongShape ph p x =
-    (isFirst ph && not (onePiece (whole p) (rest p) && x .completes)) || (isComment ph && not (onePiece (whole p) (rest p)))
-
-abbrev pub allOnes : ℕ
-allOnes = 2 ^ 64 - 1
-
--- the largest granule where a packet completes: 0 for a header
-abbrev pub granuleMax : Phase → ℕ
-granuleMax ph = pick (inHeaders ph) 0 (2 ^ 63 - 1)
-
--- 11
-unfoldable pub wrongGranule : Phase → ℕ → Bool → Bool
-wrongGranule ph g done = pick done (ltb (granuleMax ph) g) (not (eqb g allOnes))
+-- the largest granule position where a packet completes: 0 for a header
+abbrev pub granuleMost : Phase → ℕ
+granuleMost ph = pick (inHeaders ph) 0 granuleMax
 
 abbrev pub firstPacket : List Bytes → Bytes
 firstPacket [] = []
 firstPacket (b ∷ bs) = b
 
 -- an audio packet completes
-abbrev pub sounds : State → Seen → Bool
-sounds s x = not (inHeaders (s .phase)) && x .completes
+abbrev pub audioCompletes : State → Seen → Bool
+audioCompletes s x = not (inHeaders (s .phase)) && x .completes
 
 -- ---- the checks in their order; s is the state that expects the page, x its packets
 
 -- 3 and 4
 abbrev pub pageChecks : Readings → Bytes → List Check
-pageChecks R b = NotOnePage when not (R .isPage b) ∷ WrongChecksum when not (R .isSealed b) ∷ []
+pageChecks R b = NotOnePage when not (R .isPage b) ∷ WrongChecksum when not (R .isChecksummed b) ∷ []
 
 -- 5 to 8
 abbrev pub fieldChecks : State → Page → List Check
@@ -79,8 +64,8 @@ fieldChecks s p =
 abbrev pub lacingChecks : State → Page → Seen → List Check
 lacingChecks s p x =
     PacketTooLong when isLong (s .carried) (p .lacing)
-    ∷ HeaderShape when wrongShape (s .phase) p x
-    ∷ WrongGranule when wrongGranule (s .phase) (granuleOf p) (x .completes)
+    ∷ HeaderShape when wrongShape (s .phase) (shapeOf (p .lacing))
+    ∷ WrongGranule when granuleWrong (granuleMost (s .phase)) (x .completes) (granuleOf p)
     ∷ []
 
 -- 12 to 14
@@ -99,7 +84,7 @@ packetChecks R n (b ∷ bs) = IllegalPacket when not (R .isLegal n b) ∷ MixedL
 -- 19, 18, 17, where an audio packet completes
 unfoldable pub timeChecks : Readings → State → Page → Seen → List Check
 timeChecks R s p x =
-    pick (sounds s x) (judgeChecks (s .position) (s .preskip) (granuleOf p) (total (lengthsOf R s x)) (last p)) []
+    pick (audioCompletes s x) (judgeChecks (s .position) (s .preskip) (granuleOf p) (total (lengthsOf R s x)) (last p)) []
 
 -- 2 to 14
 abbrev pub shapeChecks : Readings → State → Bytes → Seen → List Check
@@ -116,12 +101,12 @@ checksOn R s b x =
 
 pub record Stamp : Type 0 where
   pub end : ℕ
-  pub size : ℕ
+  pub samples : ℕ
 
 -- of packets of these lengths, the first beginning after a position
 unfoldable pub stamps : ℕ → List ℕ → List Stamp
 stamps at [] = []
-stamps at (d ∷ ds) = record { end = at + d; size = d } ∷ stamps (at + d) ds
+stamps at (d ∷ ds) = record { end = at + d; samples = d } ∷ stamps (at + d) ds
 
 -- where the packets of the page begin
 unfoldable pub startOn : Readings → State → Page → Seen → ℕ
@@ -143,13 +128,17 @@ abbrev pub afterPosition : Bool → Position → ℕ → Position
 afterPosition true position g = At g
 afterPosition false position g = position
 
+-- the sequence number that is due after a page
+abbrev pub dueAfter : PageHeader → ℕ
+dueAfter h = (h .sequence + 1) % 2 ^ 32
+
 unfoldable pub nextOn : Readings → State → Page → Seen → State
 nextOn R s p x = record {
   phase = afterPhase (s .phase) (x .completes) (last p);
   carried = x .left;
-  position = afterPosition (sounds s x) (s .position) (granuleOf p);
+  position = afterPosition (audioCompletes s x) (s .position) (granuleOf p);
   serial = p .header .serial;
-  next = (p .header .sequence + 1) % 2 ^ 32;
+  next = dueAfter (p .header);
   streams = pick (isFirst (s .phase)) (R .headOf (firstPacket (x .packets)) .streams) (s .streams);
   preskip = pick (isFirst (s .phase)) (R .headOf (firstPacket (x .packets)) .preskip) (s .preskip);
 }

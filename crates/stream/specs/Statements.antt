@@ -7,6 +7,7 @@ use lib.ListN.{length, take, drop}
 use Rattle.octets.specs.Octets.{Bytes, Octets, total}
 use Rattle.refusal.specs.declared.Refusal.the-variants.{BadHead, BadMapping, BadTags}
 use Rattle.refusal.specs.Checks.{Check, _when_, firstOf}
+use Rattle.refusal.specs.Numbers.{numberOf}
 use Rattle.refusal.specs.Told.{gives, refuses, decided}
 use Rattle.page_reader.specs.Reading.{readPage}
 use Rattle.head_reader.specs.Reading.{readHead}
@@ -19,9 +20,15 @@ use Rattle.stream.specs.Page.{Page, pageOf, continued}
 use Rattle.stream.specs.Readings.{Readings, readings}
 use Rattle.stream.specs.State.{State, isFirst}
 use Rattle.stream.specs.Rules.{pageChecks, packetChecks}
-use Rattle.stream.specs.Feed.{Reader, carriedIn, view, start, openAt, openPartWay, Lent, listMax, isShort, feed, Taken, Entry}
-use Rattle.stream.specs.Stream.{openAfter, leftAfter, carriedOf, headOf, audioPages, phaseOf, serialOf, Mark, marks, positionFrom, lastGranule, initial, holes, decodedIn, keptCount, skippedCount, trimmedCount, listings}
-use Rattle.stream.specs.Feedings.{Feeding, feedIn, readerAfter, finally, heldOf, carryLeft, HandedOn, Shown, stream, bytesIn, bytesOf, Marked, allOf, marked, RoomAtMarks, OthersRefused, tell, toldAtMarks, joined, stood}
+use Rattle.stream.specs.Feed.{Reader, carriedIn, view, start, openAt, openPartWay, feed, Taken, Entry}
+use Rattle.stream.specs.Lent.{Lent, isShort}
+use Rattle.limits.specs.Limits.{listMax}
+use Rattle.stream.specs.Stream.{openAfter, leftAfter, carriedOf, headOf, audioPages, phaseOf, serialOf, Mark, marks}
+use Rattle.stream.specs.Stream.{positionFrom, lastGranule, initial, holes, decodedIn, keptCount, skippedCount}
+use Rattle.stream.specs.Stream.{trimmedCount, listings}
+use Rattle.stream.specs.Feedings.{Feeding, feedIn, readerAfter, finally, heldOf, carryLeft, HandedOn, Shown, stream}
+use Rattle.stream.specs.Feedings.{bytesIn, bytesOf, Marked, allOf, marked, RoomAtMarks, OthersRefused, tell}
+use Rattle.stream.specs.Feedings.{toldAtMarks, joined, hasPosition}
 
 -- ---- T0: what a refusal leaves
 
@@ -29,9 +36,9 @@ use Rattle.stream.specs.Feedings.{Feeding, feedIn, readerAfter, finally,
 pub record Keeps (r : Reader) (m e : Lent) (n : ℕ) : Type 0 where
   pub held : take (heldOf (r .core .pending)) (e .carry) ≡ take (heldOf (r .core .pending)) (m .carry)
   pub room : length (e .carry) ≡ length (m .carry)
-  pub early : n < 12 → e .carry ≡ m .carry
+  pub untouched : n < numberOf BadHead → e .carry ≡ m .carry
   pub ends : e .ends ≡ m .ends
-  pub sizes : e .sizes ≡ m .sizes
+  pub lengths : e .lengths ≡ m .lengths
   pub kept : e .kept ≡ m .kept
 
 -- the reader stays by what is told, a number alone
@@ -63,38 +70,38 @@ StreamState =
 -- ---- T2: two readers with equal cores and equal carry bytes up to the held count answer alike, and stay so; with the
 -- second one's sequence number n further on, modulo 2^32, so long as its page's is
 
-abbrev pub further : ℕ → ℕ → ℕ
-further n q = (q + n) % 2 ^ 32
+abbrev pub shifted : ℕ → ℕ → ℕ
+shifted n q = (q + n) % 2 ^ 32
 
-abbrev pub stateFurther : ℕ → State → State
-stateFurther n s = record {
+abbrev pub stateShifted : ℕ → State → State
+stateShifted n s = record {
   phase = s .phase;
   carried = s .carried;
   position = s .position;
   serial = s .serial;
-  next = further n (s .next);
+  next = shifted n (s .next);
   streams = s .streams;
   preskip = s .preskip;
 }
 
-abbrev pub pageFurther : ℕ → Page → Page
-pageFurther n p = record {
+abbrev pub pageShifted : ℕ → Page → Page
+pageShifted n p = record {
   header = record {
     flags = p .header .flags;
     granule = p .header .granule;
     serial = p .header .serial;
-    sequence = further n (p .header .sequence);
+    sequence = shifted n (p .header .sequence);
   };
   lacing = p .lacing;
   body = p .body;
 }
 
 -- the same page but for its sequence number and its checksum
-pub record BytesFurther (R : Readings) (n : ℕ) (b c : Bytes) : Type 0 where
-  pub page : pageOf c ≡ pageFurther n (pageOf b)
+pub record BytesShifted (R : Readings) (n : ℕ) (b c : Bytes) : Type 0 where
+  pub page : pageOf c ≡ pageShifted n (pageOf b)
   pub isPage : R .isPage c ≡ R .isPage b
-  pub isSealed : R .isSealed c ≡ R .isSealed b
-  pub fits : pageOf b .header .sequence < 2 ^ 32
+  pub isChecksummed : R .isChecksummed c ≡ R .isChecksummed b
+  pub small : pageOf b .header .sequence < 2 ^ 32
 
 abbrev pub viewOf : Reader → Bytes → State
 viewOf r carry = view (r .core) carry
@@ -102,14 +109,14 @@ viewOf r carry = view (r .core) carry
 pub record Alike (R : Readings) (n : ℕ) (r s : Reader) (f g : Feeding) : Type 0 where
   pub told : tell (feedIn R s g) ≡ tell (feedIn R r f)
   pub stays : viewOf (readerAfter R s g) (feedIn R s g .lent .carry)
-      ≡ stateFurther n (viewOf (readerAfter R r f) (feedIn R r f .lent .carry))
+      ≡ stateShifted n (viewOf (readerAfter R r f) (feedIn R r f .lent .carry))
 
 -- the first page of all has the sequence number 0, so it takes part unshifted only
 abbrev pub Congruence : Type 0
 Congruence =
     (R : Readings) (n : ℕ) (r s : Reader) (f g : Feeding) → isShort (f .lent) ≡ false → isShort (g .lent) ≡ false
-    → isFirst (r .core .phase) ≡ false → r .core .next < 2 ^ 32 → BytesFurther R n (f .bytes) (g .bytes)
-    → viewOf s (g .lent .carry) ≡ stateFurther n (viewOf r (f .lent .carry)) → Alike R n r s f g
+    → isFirst (r .core .phase) ≡ false → r .core .next < 2 ^ 32 → BytesShifted R n (f .bytes) (g .bytes)
+    → viewOf s (g .lent .carry) ≡ stateShifted n (viewOf r (f .lent .carry)) → Alike R n r s f g
 
 pub record AlikeSame (R : Readings) (r s : Reader) (m e : Lent) (b : Bytes) : Type 0 where
   pub told : tell (feed R s e b) ≡ tell (feed R r m b)
@@ -136,18 +143,25 @@ beganBefore R F j = openAfter false (bytesOf (take j (audioIn R F)))
 abbrev pub openedIn : Readings → List Feeding → Reader
 openedIn R F = openAt (headOf R (bytesOf (stream R start F)))
 
+-- the feedings F to the first reader and M to the second: each gets the reader, and the held bytes, as the last left them;
+-- those marked in M are the stream from its audio page j on, and have the room asked; the others are refused
+pub record Followed (R : Readings) (F : List Feeding) (j : ℕ) (M : List Marked) : Type 0 where
+  pub first : HandedOn R start [] F
+  pub second : HandedOn R (openedIn R F) [] (allOf M)
+  pub room : RoomAtMarks M
+  pub pages : marked M ≡ bytesOf (drop j (audioIn R F))
+  pub others : OthersRefused R (openedIn R F) M
+
 abbrev pub Demand3 : Type 0
 Demand3 =
-    (R : Readings) (F : List Feeding) (j : ℕ) (M : List Marked) → HandedOn R start [] F
-    → HandedOn R (openedIn R F) [] (allOf M) → RoomAtMarks M → marked M ≡ bytesOf (drop j (audioIn R F)) → OthersRefused R (openedIn R F) M
+    (R : Readings) (F : List Feeding) (j : ℕ) (M : List Marked) → Followed R F j M
     → toldAtMarks R (openedIn R F) M ≡ joined (beganBefore R F j) (drop j (audioIn R F))
 
--- once it has a granule position to stand on, the second reader has the first one's core and held bytes
+-- once it has a granule position, the second reader has the first one's core and held bytes
 abbrev pub Demand3State : Type 0
 Demand3State =
-    (R : Readings) (F : List Feeding) (j : ℕ) (M : List Marked) → HandedOn R start [] F
-    → HandedOn R (openedIn R F) [] (allOf M) → RoomAtMarks M → marked M ≡ bytesOf (drop j (audioIn R F)) → OthersRefused R (openedIn R F) M
-    → stood (drop j (audioIn R F)) ≡ true
+    (R : Readings) (F : List Feeding) (j : ℕ) (M : List Marked) → Followed R F j M
+    → hasPosition (drop j (audioIn R F)) ≡ true
     → viewOf (finally R (openedIn R F) (allOf M)) (carryLeft R (openedIn R F) [] (allOf M))
     ≡ viewOf (finally R start F) (carryLeft R start [] F)
 
@@ -194,7 +208,7 @@ pub record Shows (m e : Lent) (es : List Entry) (c : Counts) : Type 0 where
   pub packets : c .packets ≡ length es
   pub few : length es ≤ listMax
   pub ends : HasFirst (m .ends) (e .ends) (map (λ (n : Entry). n .end) es)
-  pub sizes : HasFirst (m .sizes) (e .sizes) (map (λ (n : Entry). n .size) es)
+  pub lengths : HasFirst (m .lengths) (e .lengths) (map (λ (n : Entry). n .samples) es)
   pub kept : HasFirst (m .kept) (e .kept) (map (λ (n : Entry). n .kept) es)
   pub room : length (e .carry) ≡ length (m .carry)
 

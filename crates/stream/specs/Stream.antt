@@ -20,7 +20,7 @@ use Rattle.stream.specs.Page.{Page, pageOf, last, granuleOf, completes}
 use Rattle.stream.specs.Readings.{Readings}
 use Rattle.stream.specs.State.{Carried, nothing, held}
 use Rattle.stream.specs.Rules.{firstPacket, afterPosition}
-use Rattle.stream.specs.Feed.{Entry}
+use Rattle.stream.specs.Feed.{Entry, noCounts}
 
 -- ---- packets by their segments
 
@@ -199,17 +199,14 @@ pub record Listing : Type 0 where
   pub counts : Counts
 
 -- of a header page
-abbrev pub silent : Listing
-silent = record {
-  entries = [];
-  counts = record { packets = 0; samples = 0; kept = 0; skipped = 0; trimmed = 0; hole = 0 };
-}
+abbrev pub nothingListed : Listing
+nothingListed = record { entries = []; counts = noCounts }
 
 -- the packets of a mark, n samples being decoded before the first, which begins after `at`
 unfoldable pub entriesFrom : ℕ → ℕ → Mark → ℕ → List ℕ → List Entry
 entriesFrom preskip n m at [] = []
 entriesFrom preskip n m at (d ∷ ds) =
-    record { end = at + d; size = d; kept = tally (sampleKept preskip n m at) d } ∷ entriesFrom preskip (n + d) m (at + d) ds
+    record { end = at + d; samples = d; kept = tally (sampleKept preskip n m at) d } ∷ entriesFrom preskip (n + d) m (at + d) ds
 
 abbrev pub countsFrom : ℕ → ℕ → Mark → ℕ → ℕ → Counts
 countsFrom preskip n m at hole = record {
@@ -241,9 +238,9 @@ audioListings R head h position n (b ∷ bs) =
 unfoldable pub commentListings : Readings → Head → List Bytes → List Listing
 commentListings R head [] = []
 commentListings R head (b ∷ bs) =
-    silent ∷ pick (completes (pageOf b)) (audioListings R head [] Unset 0 bs) (commentListings R head bs)
+    nothingListed ∷ pick (completes (pageOf b)) (audioListings R head [] Unset 0 bs) (commentListings R head bs)
 
 -- of a stream
 unfoldable pub listings : Readings → List Bytes → List Listing
 listings R [] = []
-listings R (b ∷ bs) = silent ∷ commentListings R (headOf R (b ∷ bs)) bs
+listings R (b ∷ bs) = nothingListed ∷ commentListings R (headOf R (b ∷ bs)) bs

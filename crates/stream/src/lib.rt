@@ -1,6 +1,7 @@
 // What a reader of a stream is made of, and what it tells of a page. No code: the rules are in `specs/`, and the code that
 // follows them is above.
 use granule::Position;
+use refusal::Refusal;
 
 // How far the stream has come. Opened: part way, no page accepted yet.
 pub enum Phase {
@@ -44,4 +45,18 @@ pub struct Counts {
     pub skipped: u64,
     pub trimmed: u64,
     pub hole: u64,
+}
+
+// What feeding a page answers: the next core and tally and the page's own record, or a refusal.
+pub enum PageFed {
+    Accepted(Core, Tally, Counts),
+    Refused(Refusal),
+}
+
+// What a page is of one packet, by its lacing values: its last piece and nothing else, a piece that goes on and nothing else,
+// or something else.
+pub enum Shape {
+    Ends,
+    GoesOn,
+    Other,
 }

@@ -1,5 +1,6 @@
 // Reading standard input, and feeding its pages up to the comment header.
 use head_fields::Head;
+use limits::LIST_MAX;
 use page_end::End;
 use reader::Fed;
 use reader::Reader;
@@ -108,10 +109,10 @@ fn fed_page(p: Progress, fed: Fed, body: &[u8]) -> Progress {
 // Feeding asks for lists with room for a page's packets, but no packet of a header is listed.
 fn feed_page(p: Progress, page: &[u8], carry: &mut [u8]) -> Progress {
     let reader = p.reader;
-    let mut ends = [0u64; 255];
-    let mut sizes = [0u64; 255];
-    let mut kept = [0u64; 255];
-    let fed = reader::feed(reader, page, carry, &mut ends, &mut sizes, &mut kept);
+    let mut ends = [0u64; LIST_MAX];
+    let mut lengths = [0u64; LIST_MAX];
+    let mut kept = [0u64; LIST_MAX];
+    let fed = reader::feed(reader, page, carry, &mut ends, &mut lengths, &mut kept);
     fed_page(p, fed, page_layout::body_of(page))
 }
 

@@ -4,6 +4,7 @@
 // Sums that could wrap only past the end of all memory are written as wrapping ones.
 use feeding::Progress;
 use feeding::Stage;
+use limits::PACKET_MAX;
 
 mod feeding;
 mod listing;
@@ -36,7 +37,7 @@ fn tell(p: Progress, carry: &[u8]) {
 // The input buffer has room for a page, of 65,307 bytes at most, and for a read as long behind it.
 fn main() {
     let mut buffer = [0u8; 131072];
-    let mut carry = [0u8; 61440];
+    let mut carry = [0u8; PACKET_MAX];
     let p = feeding::run(&mut buffer, &mut carry);
     tell(p, &carry);
 }

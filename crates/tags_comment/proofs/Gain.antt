@@ -15,16 +15,18 @@ use mir.Val.{toZ}
 use Rattle.octets.specs.Pick.{pick}
 use Rattle.octets.specs.Octets.{Bytes}
 use Rattle.octets.proofs.Tests.{both}
+use Rattle.refusal.specs.declared.Refusal.the-variants.{BadGain}
+use Rattle.refusal.specs.Numbers.{numberOf}
 use Rattle.refusal.specs.Checks.{firstOf}
 use Rattle.refusal.specs.Told.{gives, refuses}
-use Rattle.tags_comment.specs.Names.{signPlace}
-use Rattle.tags_comment.specs.Gain.{isMinus, isSigned, digitsOf, allDigits, decimal, sizeOf, mostOf, rightGain, gainOf, hasGain, commentGain}
+use Rattle.tags_comment.specs.Names.{equalsPlace}
+use Rattle.tags_comment.specs.Gain.{isMinus, isSigned, digitsOf, allDigits, mostCharacters, decimal, sizeOf, mostOf, rightGain, gainOf, hasGain, commentGain}
 
 -- as many bytes as there are
-pub all-behind : (k : ℕ) (t : Bytes) → take (length t) (drop k t) ≡ drop k t
-all-behind k t = take-all (length t) (drop k t) (simp length-drop (omega arith))
+pub all-after : (k : ℕ) (t : Bytes) → take (length t) (drop k t) ≡ drop k t
+all-after k t = take-all (length t) (drop k t) (simp length-drop (omega arith))
 
--- ---- the number that digits stand for
+-- ---- the number that digits write
 
 module _ (d : Bytes) (i : ℕ) (inside : i < length d) where
   pub digit-more : (x : ℕ) → decimal (x * 10 + (getD d i 0 - 0x30)) (drop (i + 1) d) ≡ decimal x (drop i d)
@@ -52,48 +54,48 @@ minus-bits (suc n) h =
 
 -- ---- a gain text, with its digits d
 
-pub too-long : (t : Bytes) → 6 < length t → rightGain t ≡ false
+pub too-long : (t : Bytes) → mostCharacters < length t → rightGain t ≡ false
 unfolding rightGain
-too-long t h = rw (lt-leb (length t) 6 h)
+too-long t h = rw (lt-leb (length t) mostCharacters h)
 
-module _ (t d : Bytes) (short : length t ≤ 6) (digits : d ≡ digitsOf t) where
+module _ (t d : Bytes) (short : length t ≤ mostCharacters) (digits : d ≡ digitsOf t) where
   pub no-digit : length d < 1 → rightGain t ≡ false
   unfolding rightGain
-  no-digit h = rw (← digits, le-leb (length t) 6 short, lt-leb 1 (length d) h)
+  no-digit h = rw (← digits, le-leb (length t) mostCharacters short, lt-leb 1 (length d) h)
 
   pub not-digits : 1 ≤ length d → allDigits d ≡ false → rightGain t ≡ false
   unfolding rightGain
-  not-digits some e = rw (← digits, le-leb (length t) 6 short, le-leb 1 (length d) some, e)
+  not-digits some e = rw (← digits, le-leb (length t) mostCharacters short, le-leb 1 (length d) some, e)
 
   pub size-decides : 1 ≤ length d → allDigits d ≡ true → rightGain t ≡ leb (decimal 0 d) (mostOf t)
   unfolding rightGain
-  size-decides some e = rw (← digits, le-leb (length t) 6 short, le-leb 1 (length d) some, e)
+  size-decides some e = rw (← digits, le-leb (length t) mostCharacters short, le-leb 1 (length d) some, e)
 
-  pub few-digits : length d ≤ 6
+  pub few-digits : length d ≤ mostCharacters
   few-digits = rw digits (by (isSigned t))
     where
-      by : (b : Bool) → length (pick b (drop 1 t) t) ≤ 6
+      by : (b : Bool) → length (pick b (drop 1 t) t) ≤ mostCharacters
       by true = simp length-drop (omega arith)
       by false = short
 
 -- the other way: what a right gain text has
 module _ (t : Bytes) (right : rightGain t ≡ true) where
-  pub is-short : length t ≤ 6
+  pub is-short : length t ≤ mostCharacters
   unfolding rightGain
-  is-short = leb-true (length t) 6 (both (leb (length t) 6) _ right .0)
+  is-short = leb-true (length t) mostCharacters (both (leb (length t) mostCharacters) _ right .0)
 
-  behind-length : (leb 1 (length (digitsOf t)) && (allDigits (digitsOf t) && leb (sizeOf t) (mostOf t))) ≡ true
+  after-length : (leb 1 (length (digitsOf t)) && (allDigits (digitsOf t) && leb (sizeOf t) (mostOf t))) ≡ true
   unfolding rightGain
-  behind-length = both (leb (length t) 6) _ right .1
+  after-length = both (leb (length t) mostCharacters) _ right .1
 
-  behind-count : (allDigits (digitsOf t) && leb (sizeOf t) (mostOf t)) ≡ true
-  behind-count = both (leb 1 (length (digitsOf t))) _ behind-length .1
+  after-count : (allDigits (digitsOf t) && leb (sizeOf t) (mostOf t)) ≡ true
+  after-count = both (leb 1 (length (digitsOf t))) _ after-length .1
 
   pub has-digits : allDigits (digitsOf t) ≡ true
-  has-digits = both (allDigits (digitsOf t)) _ behind-count .0
+  has-digits = both (allDigits (digitsOf t)) _ after-count .0
 
   size-fits : sizeOf t ≤ mostOf t
-  size-fits = leb-true (sizeOf t) (mostOf t) (both (allDigits (digitsOf t)) _ behind-count .1)
+  size-fits = leb-true (sizeOf t) (mostOf t) (both (allDigits (digitsOf t)) _ after-count .1)
 
   -- n is its number
   module _ (n : ℕ) (number : n ≡ sizeOf t) where
@@ -113,19 +115,19 @@ module _ (t : Bytes) (right : rightGain t ≡ true) where
     pub plus-gain : isMinus t ≡ false → toZ w16 n ≡ gainOf t
     plus-gain m = plus-bits n (plus-fits m) ∙ by-sign false m
 
--- ---- a comment, with the place p of its first sign and its value v
+-- ---- a comment, with the place p of its first "=" and its value v
 
-module _ (c : Bytes) (p : ℕ) (place : p ≡ signPlace c) where
-  pub signless : length c ≤ p → commentGain c ≡ refuses 21
+module _ (c : Bytes) (p : ℕ) (place : p ≡ equalsPlace c) where
+  pub without-equals : length c ≤ p → commentGain c ≡ refuses (numberOf BadGain)
   unfolding commentGain hasGain firstOf
-  signless h = rw (← place, le-ltb p (length c) h)
+  without-equals h = rw (← place, le-ltb p (length c) h)
 
   module _ (v : Bytes) (inside : p < length c) (value : v ≡ drop (p + 1) c) where
     value-there : hasGain c ≡ rightGain v
     unfolding hasGain
     value-there = rw (← place, lt-ltb p (length c) inside, value, add-one)
 
-    pub no-gain : rightGain v ≡ false → commentGain c ≡ refuses 21
+    pub no-gain : rightGain v ≡ false → commentGain c ≡ refuses (numberOf BadGain)
     unfolding commentGain firstOf
     no-gain e = rw (value-there, e)
 

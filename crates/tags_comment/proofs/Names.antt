@@ -1,4 +1,4 @@
--- Laws of names: where the sign stands, names compared, and comments. Assumes nothing.
+-- Laws of names: where the first "=" is, names compared, and comments. Assumes nothing.
 use mathlib.Core.Path.{_≡_, refl, ap}
 use mathlib.Core.Bool.{Bool, true, false, _&&_}
 use mathlib.Core.List.{[], _∷_}
@@ -10,22 +10,22 @@ use lib.ListN.{length, getD, take, drop, drop-of-length-le}
 use lib.Seq.{drop-cons}
 use Rattle.octets.specs.Octets.{Bytes}
 use Rattle.utf8.specs.Characters.{utf8}
-use Rattle.tags_comment.specs.Names.{sign, signPlace, rightName, rightComment, upper, sameName, isNamed}
+use Rattle.tags_comment.specs.Names.{equals, equalsPlace, rightName, rightComment, upper, sameName, isNamed}
 
--- ---- the first sign
+-- ---- the first "="
 
-pub no-sign-left : (c : Bytes) (i : ℕ) → length c ≤ i → signPlace (drop i c) ≡ 0
-unfolding signPlace
-no-sign-left c i h = rw (drop-of-length-le c h)
+pub no-equals-left : (c : Bytes) (i : ℕ) → length c ≤ i → equalsPlace (drop i c) ≡ 0
+unfolding equalsPlace
+no-equals-left c i h = rw (drop-of-length-le c h)
 
 module _ (c : Bytes) (i : ℕ) (inside : i < length c) where
-  pub sign-here : getD c i 0 ≡ sign → signPlace (drop i c) ≡ 0
-  unfolding signPlace
-  sign-here e = rw (drop-cons c i 0 inside, eq-eqb (getD c i 0) sign e)
+  pub equals-here : getD c i 0 ≡ equals → equalsPlace (drop i c) ≡ 0
+  unfolding equalsPlace
+  equals-here e = rw (drop-cons c i 0 inside, eq-eqb (getD c i 0) equals e)
 
-  pub no-sign-here : (getD c i 0 ≡ sign → ⊥) → signPlace (drop i c) ≡ suc (signPlace (drop (i + 1) c))
-  unfolding signPlace
-  no-sign-here n = rw (add-one, drop-cons c i 0 inside, ne-eqb (getD c i 0) sign n)
+  pub no-equals-here : (getD c i 0 ≡ equals → ⊥) → equalsPlace (drop i c) ≡ suc (equalsPlace (drop (i + 1) c))
+  unfolding equalsPlace
+  no-equals-here n = rw (add-one, drop-cons c i 0 inside, ne-eqb (getD c i 0) equals n)
 
 -- ---- names compared
 
@@ -49,13 +49,13 @@ module _ (n m : Bytes) (i : ℕ) (in-n : i < length n) (in-m : i < length m) whe
   unfolding sameName
   same-letter e = rw (add-one i, drop-cons n i 0 in-n, drop-cons m i 0 in-m, e)
 
--- ---- comments, with the place p of the first sign
+-- ---- comments, with the place p of the first "="
 
 pub not-utf8 : (c : Bytes) → utf8 c ≡ false → rightComment c ≡ false
 unfolding rightComment
 not-utf8 c e = rw e
 
-module _ (c : Bytes) (p : ℕ) (place : p ≡ signPlace c) where
+module _ (c : Bytes) (p : ℕ) (place : p ≡ equalsPlace c) where
   pub without-name : utf8 c ≡ true → length c ≤ p → rightComment c ≡ true
   unfolding rightComment
   without-name text h = rw (text, ← place, le-ltb p (length c) h)

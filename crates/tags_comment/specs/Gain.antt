@@ -1,7 +1,8 @@
 -- The gain in a comment's value (RFC 7845, 5.2.1; document 01, "Gain text" and refusal 21): an optional sign and digits, at
 -- least one digit, at most 6 characters in all, from -32768 to 32767. Assumes nothing.
-use Prim.Native.Nat.{ℕ, _+_, _-_, _*_}
-use mathlib.Core.Bool.{Bool, not, _&&_, _||_}
+use Prim.Native.Nat.{ℕ, _+_, _-_, _*_, _≤_}
+use mathlib.Core.Path.{_≡_}
+use mathlib.Core.Bool.{Bool, true, not, _&&_, _||_}
 use mathlib.Core.List.{List, [], _∷_}
 use lib.Dec.{leb, eqb}
 use lib.IntN.{ℤ, pos, negℤ}
@@ -30,7 +31,16 @@ digitsOf t = pick (isSigned t) (drop 1 t) t
 abbrev pub allDigits : Bytes → Bool
 allDigits d = allWithin 0x30 0x39 d
 
--- the number that the digits stand for, behind x
+-- how many characters a gain has at most
+abbrev pub mostCharacters : ℕ
+mostCharacters = 6
+
+-- digits that a gain may have
+pub record FewDigits (d : Bytes) : Type 0 where
+  pub digits : allDigits d ≡ true
+  pub few : length d ≤ mostCharacters
+
+-- the number that the digits write, those of x before them
 unfoldable pub decimal : ℕ → Bytes → ℕ
 decimal x [] = x
 decimal x (b ∷ s) = decimal (x * 10 + (b - 0x30)) s
@@ -38,12 +48,14 @@ decimal x (b ∷ s) = decimal (x * 10 + (b - 0x30)) s
 abbrev pub sizeOf : Bytes → ℕ
 sizeOf t = decimal 0 (digitsOf t)
 
--- the greatest number that may stand behind the sign
+-- the greatest number that may follow the sign
 abbrev pub mostOf : Bytes → ℕ
 mostOf t = pick (isMinus t) 32768 32767
 
 unfoldable pub rightGain : Bytes → Bool
-rightGain t = leb (length t) 6 && (leb 1 (length (digitsOf t)) && (allDigits (digitsOf t) && leb (sizeOf t) (mostOf t)))
+rightGain t =
+    leb (length t) mostCharacters
+    && (leb 1 (length (digitsOf t)) && (allDigits (digitsOf t) && leb (sizeOf t) (mostOf t)))
 
 unfoldable pub gainOf : Bytes → ℤ
 gainOf t = pick (isMinus t) (negℤ (pos (sizeOf t))) (pos (sizeOf t))

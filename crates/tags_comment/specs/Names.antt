@@ -10,22 +10,22 @@ use Rattle.octets.specs.Octets.{Bytes}
 use Rattle.utf8.specs.Characters.{utf8}
 
 -- "="
-abbrev pub sign : ℕ
-sign = 0x3d
+abbrev pub equals : ℕ
+equals = 0x3d
 
 -- the place of the first "=", or the comment's length
-unfoldable pub signPlace : Bytes → ℕ
-signPlace [] = 0
-signPlace (b ∷ c) = pick (eqb b sign) 0 (suc (signPlace c))
+unfoldable pub equalsPlace : Bytes → ℕ
+equalsPlace [] = 0
+equalsPlace (b ∷ c) = pick (eqb b equals) 0 (suc (equalsPlace c))
 
 abbrev pub hasName : Bytes → Bool
-hasName c = ltb (signPlace c) (length c)
+hasName c = ltb (equalsPlace c) (length c)
 
 abbrev pub nameOf : Bytes → Bytes
-nameOf c = take (signPlace c) c
+nameOf c = take (equalsPlace c) c
 
 abbrev pub valueOf : Bytes → Bytes
-valueOf c = drop (suc (signPlace c)) c
+valueOf c = drop (suc (equalsPlace c)) c
 
 -- each byte lies in low to high
 unfoldable pub allWithin : ℕ → ℕ → Bytes → Bool

@@ -1,12 +1,11 @@
 // One comment of a comment header (RFC 7845, 5.2): its name, and the gain in its value.
 ghost use mathlib.Core.Path.{_≡_};
 ghost use mathlib.Core.Bool.{true};
-ghost use Prim.Native.Nat.{_≤_};
-ghost use lib.ListN.{length};
 ghost use mir.Syntax.{w16};
 ghost use mir.Val.{toZ};
-ghost use Rattle.tags_comment.specs.Names.{signPlace, allWithin, rightComment, upper, sameName, isNamed};
-ghost use Rattle.tags_comment.specs.Gain.{isMinus, digitsOf, allDigits, decimal, mostOf, rightGain, gainOf, commentGain, toldGain};
+ghost use Rattle.tags_comment.specs.Names.{equalsPlace, allWithin, rightComment, upper, sameName, isNamed};
+ghost use Rattle.tags_comment.specs.Gain.{isMinus, digitsOf, FewDigits, decimal, mostOf};
+ghost use Rattle.tags_comment.specs.Gain.{rightGain, gainOf, commentGain, toldGain};
 use refusal::Refusal;
 
 pub enum GainRead {
@@ -15,8 +14,8 @@ pub enum GainRead {
 }
 
 // The place of the first "=", or the comment's length.
-fn sign_place(c: &[u8]) -> usize
-    ensures { λ r. ⌜ r ≡ signPlace (now (c .entry)) ⌝ }
+fn equals_place(c: &[u8]) -> usize
+    ensures { λ r. ⌜ r ≡ equalsPlace (now (c .entry)) ⌝ }
 {
     let mut i = 0;
     while i < c.len() {
@@ -53,7 +52,7 @@ pub fn right_comment(c: &[u8]) -> bool
     if !utf8::is_utf8(c) {
         return false;
     }
-    let place = sign_place(c);
+    let place = equals_place(c);
     if place >= c.len() {
         return true;
     }
@@ -94,7 +93,7 @@ fn same_name(n: &[u8], m: &[u8]) -> bool
 pub fn is_named(name: &[u8], c: &[u8]) -> bool
     ensures { λ r. ⌜ r ≡ isNamed (now (name .entry)) (now (c .entry)) ⌝ }
 {
-    let place = sign_place(c);
+    let place = equals_place(c);
     if place >= c.len() {
         return false;
     }
@@ -107,7 +106,7 @@ fn is_minus(t: &[u8]) -> bool
     octets::byte_at(t, 0) == 0x2d
 }
 
-// The digits behind a sign, or all of the text where there is none.
+// The digits after a sign, or all of the text where there is none.
 fn digits_of(t: &[u8]) -> &[u8]
     ensures { λ r. ⌜ now r ≡ digitsOf (now (t .entry)) ⌝ }
 {
@@ -121,9 +120,9 @@ fn digits_of(t: &[u8]) -> &[u8]
     octets::part_of(t, 0, t.len())
 }
 
-// The number that at most six digits stand for.
+// The number that at most six digits write.
 fn decimal(d: &[u8]) -> u32
-    requires { ⌜ (allDigits (now d) ≡ true) × (length (now d) ≤ 6) ⌝ }
+    requires { ⌜ FewDigits (now d) ⌝ }
     ensures { λ r. ⌜ r ≡ decimal 0 (now (d .entry)) ⌝ }
 {
     let mut x: u32 = 0;
@@ -136,7 +135,7 @@ fn decimal(d: &[u8]) -> u32
     x
 }
 
-// The greatest number that may stand behind this sign.
+// The greatest number that may follow this sign.
 fn most_of(t: &[u8]) -> u32
     ensures { λ r. ⌜ r ≡ mostOf (now (t .entry)) ⌝ }
 {
@@ -160,7 +159,7 @@ fn right_gain(t: &[u8]) -> bool
     decimal(d) <= most_of(t)
 }
 
-// The 16 bits of the number that a right gain text stands for.
+// The 16 bits of the number that a right gain text writes.
 fn gain_bits(t: &[u8]) -> u16
     requires { ⌜ rightGain (now t) ≡ true ⌝ }
     ensures { λ r. ⌜ toZ w16 r ≡ gainOf (now (t .entry)) ⌝ }
@@ -176,7 +175,7 @@ fn gain_bits(t: &[u8]) -> u16
 pub fn comment_gain(c: &[u8]) -> GainRead
     ensures { λ r. ⌜ toldGain r ≡ commentGain (now (c .entry)) ⌝ }
 {
-    let place = sign_place(c);
+    let place = equals_place(c);
     if place >= c.len() {
         return GainRead::Refused(Refusal::BadGain);
     }

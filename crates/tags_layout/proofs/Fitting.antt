@@ -1,4 +1,4 @@
--- When a text behind its length fits into the packet. Assumes nothing.
+-- When a text fits into the packet, whose length is at a place. Assumes nothing.
 use mathlib.Core.Path.{_≡_, refl}
 use mathlib.Core.Bool.{Bool, true, false}
 use Prim.Native.Nat.{ℕ, _+_, _-_, _≤_, _<_}
@@ -9,6 +9,8 @@ use lib.ListN.{length}
 use Rattle.octets.specs.Octets.{Bytes}
 use Rattle.octets.specs.Numbers.{number}
 use Rattle.octets.proofs.Tests.{both}
+use Rattle.refusal.specs.declared.Refusal.the-variants.{BadTags}
+use Rattle.refusal.specs.Numbers.{numberOf}
 use Rattle.refusal.specs.Checks.{firstOf}
 use Rattle.refusal.specs.Told.{gives, refuses}
 use Rattle.tags_layout.specs.Layout.{nextPlace, fitsAt}
@@ -39,7 +41,7 @@ inside b at e = leb-true (nextPlace b at) (length b) (both (leb (at + 4) (length
 
 -- ---- what is found at a place
 
-pub no-part : (b : Bytes) (at : ℕ) → fitsAt b at ≡ false → findText b at ≡ refuses 14
+pub no-part : (b : Bytes) (at : ℕ) → fitsAt b at ≡ false → findText b at ≡ refuses (numberOf BadTags)
 unfolding findText firstOf
 no-part b at e = rw e
 

@@ -12,7 +12,7 @@ use Rattle.tags_layout.specs.declared.PartRead.{PartRead}
 use Rattle.tags_layout.specs.declared.PartRead.the-variants.{Found, Refused}
 use Rattle.tags_layout.specs.Layout.{partAt, fitsAt}
 
--- the text whose length stands at this place, for a listing that goes from each comment to the next
+-- the text whose length is at this place, for a listing that goes from each comment to the next
 unfoldable pub findText : Bytes → ℕ → Told Part
 findText b at = decided (firstOf (BadTags when not (fitsAt b at) ∷ [])) (partAt b at)
 

@@ -1,5 +1,5 @@
--- The layout of a comment header (RFC 7845, 5.2; document 01, "Comment packet"): "OpusTags", the vendor behind its length, the
--- number of comments, then each comment behind its length, and trailing bytes that nobody looks at. Lengths and the number are
+-- The layout of a comment header (RFC 7845, 5.2; document 01, "Comment packet"): "OpusTags", the vendor after its length, the
+-- number of comments, then each comment after its length, and trailing bytes that nobody looks at. Lengths and the number are
 -- of 4 bytes. Places are counted from the start of the packet; what passes its end is read as far as it goes. Assumes nothing.
 use Prim.Native.Nat.{ℕ, zero, suc, _+_}
 use mathlib.Core.Bool.{Bool, true, _&&_}
@@ -14,13 +14,17 @@ use Rattle.tags_layout.specs.declared.Part.{Part}
 abbrev pub signature : Bytes
 signature = 0x4f ∷ 0x70 ∷ 0x75 ∷ 0x73 ∷ 0x54 ∷ 0x61 ∷ 0x67 ∷ 0x73 ∷ []
 
--- ---- one text behind its length
+-- how long a packet with an empty vendor and no comment is
+abbrev pub emptySize : ℕ
+emptySize = 16
 
--- where the text lies whose length stands at this place
+-- ---- one text after its length
+
+-- where the text lies whose length is at this place
 abbrev pub partAt : Bytes → ℕ → Part
 partAt b at = record { start = at + 4; size = number 4 b at }
 
--- the place behind it
+-- the place after it
 abbrev pub nextPlace : Bytes → ℕ → ℕ
 nextPlace b at = at + 4 + number 4 b at
 
@@ -42,35 +46,43 @@ unfoldable pub textsFrom : Bytes → ℕ → ℕ → List Bytes
 textsFrom b zero at = []
 textsFrom b (suc n) at = bytesOf b (partAt b at) ∷ textsFrom b n (nextPlace b at)
 
--- the place behind them
+-- the place after them
 unfoldable pub placeAfter : Bytes → ℕ → ℕ → ℕ
 placeAfter b zero at = at
 placeAfter b (suc n) at = placeAfter b n (nextPlace b at)
 
 -- ---- the packet
 
-abbrev pub vendorPart : Bytes → Part
-vendorPart b = partAt b 8
+-- the place of the vendor's length, and that of its first byte
+abbrev pub vendorPlace : ℕ
+vendorPlace = 8
 
--- where the number of comments stands
+abbrev pub vendorStart : ℕ
+vendorStart = 12
+
+abbrev pub vendorPart : Bytes → Part
+vendorPart b = partAt b vendorPlace
+
+-- the place of the number of comments
 abbrev pub countPlace : Bytes → ℕ
-countPlace b = nextPlace b 8
+countPlace b = nextPlace b vendorPlace
 
 abbrev pub countOf : Bytes → ℕ
 countOf b = number 4 b (countPlace b)
 
--- where the length of the first comment stands
+-- the place of the length of the first comment
 abbrev pub firstPlace : Bytes → ℕ
 firstPlace b = countPlace b + 4
 
--- where the length of comment i stands
+-- the place of the length of comment i
 abbrev pub commentPlace : Bytes → ℕ → ℕ
 commentPlace b i = placeAfter b i (firstPlace b)
 
 -- nothing passes the end
 unfoldable pub isLaidOut : Bytes → Bool
 isLaidOut b =
-    begins signature b && (fitsAt b 8 && (leb (firstPlace b) (length b) && allFit b (countOf b) (firstPlace b)))
+    begins signature b
+    && (fitsAt b vendorPlace && (leb (firstPlace b) (length b) && allFit b (countOf b) (firstPlace b)))
 
 -- the value of a packet
 pub record Tags : Type 0 where

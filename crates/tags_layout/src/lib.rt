@@ -1,8 +1,21 @@
-// Where the parts of a comment header lie (RFC 7845, 5.2): each text behind its length, by places in the packet.
+// Where the parts of a comment header lie (RFC 7845, 5.2): each text after its length, by places in the packet.
 ghost use mathlib.Core.Path.{_≡_};
-ghost use Rattle.tags_layout.specs.Layout.{fitsAt, countOf, firstPlace};
+ghost use Rattle.octets.specs.Numbers.{number};
+ghost use Rattle.tags_layout.specs.Layout.{vendorPlace, fitsAt, countOf, firstPlace};
 ghost use Rattle.tags_layout.specs.Finding.{findText, toldPart};
 use refusal::Refusal;
+
+// What the packet begins with.
+pub const SIGNATURE: [u8; 8] = *b"OpusTags";
+
+// The place of the vendor's length.
+pub const VENDOR_PLACE: usize = 8;
+
+// The place of the vendor's first byte.
+pub const VENDOR_START: usize = 12;
+
+// How long a packet with an empty vendor and no comment is.
+pub const EMPTY_SIZE: usize = 16;
 
 // A part of a packet: where it starts, and how many bytes it has.
 pub struct Part {
@@ -15,7 +28,7 @@ pub enum PartRead {
     Refused(Refusal),
 }
 
-// Whether a text behind its length at this place lies inside the packet.
+// Whether a text lies inside the packet whose length is at this place.
 pub fn fits_at(b: &[u8], at: usize) -> bool
     ensures { λ r. ⌜ r ≡ fitsAt (now (b .entry)) at ⌝ }
 {
@@ -28,7 +41,7 @@ pub fn fits_at(b: &[u8], at: usize) -> bool
     number_reader::number32(b, at) as usize <= b.len() - at - 4
 }
 
-// Where the text lies whose length stands at this place: a listing goes from the end of each comment to the next. 14: the
+// Where the text lies whose length is at this place: a listing goes from the end of each comment to the next. 14: the
 // length, or the text, passes the end.
 pub fn find_text(b: &[u8], at: usize) -> PartRead
     ensures { λ r. ⌜ toldPart r ≡ findText (now (b .entry)) at ⌝ }
@@ -43,18 +56,25 @@ pub fn find_text(b: &[u8], at: usize) -> PartRead
     })
 }
 
+// How many bytes the packet says that its vendor has.
+pub fn vendor_size(b: &[u8]) -> u32
+    ensures { λ r. ⌜ r ≡ number 4 (now (b .entry)) vendorPlace ⌝ }
+{
+    number_reader::number32(b, VENDOR_PLACE)
+}
+
 // How many comments the packet says that it has.
 pub fn count_of(b: &[u8]) -> usize
     ensures { λ r. ⌜ r ≡ countOf (now (b .entry)) ⌝ }
 {
-    let vendor = number_reader::number32(b, 8) as usize;
-    number_reader::number32(b, 12 + vendor) as usize
+    let vendor = vendor_size(b) as usize;
+    number_reader::number32(b, VENDOR_START + vendor) as usize
 }
 
-// The place where the length of the first comment stands, for a listing. It may lie past the end where the packet is wrong.
+// The place of the length of the first comment, for a listing. It may lie past the end where the packet is wrong.
 pub fn first_comment(b: &[u8]) -> usize
     ensures { λ r. ⌜ r ≡ firstPlace (now (b .entry)) ⌝ }
 {
-    let size = number_reader::number32(b, 8) as usize;
-    16 + size
+    let size = vendor_size(b) as usize;
+    EMPTY_SIZE + size
 }

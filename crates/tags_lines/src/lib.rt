@@ -1,15 +1,19 @@
 // The lines that show a comment header. Each public function puts one whole line into a lent buffer, or nothing where it does
-// not fit, and answers the place behind it.
+// not fit, and answers the place after it.
 ghost use mathlib.Core.Path.{_≡_};
 ghost use Prim.Native.Nat.{_≤_};
 ghost use lib.ListN.{length};
-ghost use Rattle.text_put.specs.Writing.{Put, Laid};
-ghost use Rattle.tags_lines.specs.Lines.{commentIs, textLine, isGain, commentEnd};
+ghost use Rattle.text_put.specs.Writing.{Put};
+ghost use Rattle.tags_lines.specs.Lines.{textLine, isGain, endMost, EndLaid, commentLine};
 use tags_comment::GainRead;
 
-// A text behind its name, escaped, and what ends the line.
+// The most bytes that end the line of a comment.
+const END_MAX: usize = 35;
+
+// A text after its name, escaped, and what ends the line.
 pub fn put_text(out: &mut [u8], at: usize, name: &[u8], text: &[u8], end: &[u8]) -> usize
-    ensures { λ r. ⌜ Put (now (out .entry)) at (textLine (now (name .entry)) (now (text .entry)) (now (end .entry))) r (now (out .exit)) ⌝ }
+    ensures { λ r. ⌜ Put (now (out .entry)) at
+        (textLine (now (name .entry)) (now (text .entry)) (now (end .entry))) r (now (out .exit)) ⌝ }
 {
     if out.len() < at {
         return at;
@@ -29,13 +33,13 @@ pub fn put_text(out: &mut [u8], at: usize, name: &[u8], text: &[u8], end: &[u8])
 fn is_gain(c: &[u8]) -> bool
     ensures { λ r. ⌜ r ≡ isGain (now (c .entry)) ⌝ }
 {
-    tags_comment::is_named(b"R128_TRACK_GAIN", c) | tags_comment::is_named(b"R128_ALBUM_GAIN", c)
+    tags_rules::is_track_gain(c) | tags_rules::is_album_gain(c)
 }
 
-// What ends the line of a comment: behind a gain that is right, its decibels.
+// What ends the line of a comment: after a gain that is right, its decibels.
 fn lay_end(out: &mut [u8], c: &[u8]) -> usize
-    requires { ⌜ 35 ≤ length (now out) ⌝ }
-    ensures { λ r. ⌜ Laid (now (out .entry)) 0 (commentEnd (now (c .entry))) r (now (out .exit)) × (length (commentEnd (now (c .entry))) ≤ 35) ⌝ }
+    requires { ⌜ endMost ≤ length (now out) ⌝ }
+    ensures { λ r. ⌜ EndLaid (now (out .entry)) (now (c .entry)) r (now (out .exit)) ⌝ }
 {
     if !is_gain(c) {
         return text_put::put_bytes(out, 0, b"\n");
@@ -48,9 +52,9 @@ fn lay_end(out: &mut [u8], c: &[u8]) -> usize
 
 // A comment.
 pub fn put_comment(out: &mut [u8], at: usize, c: &[u8]) -> usize
-    ensures { λ r. ⌜ Put (now (out .entry)) at (textLine commentIs (now (c .entry)) (commentEnd (now (c .entry)))) r (now (out .exit)) ⌝ }
+    ensures { λ r. ⌜ Put (now (out .entry)) at (commentLine (now (c .entry))) r (now (out .exit)) ⌝ }
 {
-    let mut end = [0u8; 35];
+    let mut end = [0u8; END_MAX];
     let n = lay_end(&mut end, c);
     put_text(out, at, b"comment ", c, octets::part_of(&end, 0, n))
 }

@@ -15,7 +15,7 @@ use Rattle.tags_rules.specs.declared.Gains.the-variants.{Wrong as WrongComment,
 use Rattle.tags_rules.specs.Right.{trackGain, albumGain, rightComments}
 use Rattle.tags_rules.specs.Code.{goesOn, judged, rightFrom}
 use Rattle.tags_rules.proofs.Counting.{and-false, right-from}
-use Rattle.tags_layout.specs.Layout.{signature, partAt, nextPlace, fitsAt, bytesOf, allFit, textsFrom, placeAfter, vendorPart, countOf, firstPlace, isLaidOut, tagsOf}
+use Rattle.tags_layout.specs.Layout.{signature, partAt, nextPlace, fitsAt, bytesOf, allFit, textsFrom, placeAfter, vendorPlace, vendorPart, countOf, firstPlace, isLaidOut, tagsOf}
 use Rattle.tags_reader.specs.declared.Walk.{Walk}
 use Rattle.tags_reader.specs.declared.Walk.the-variants.{Wrong, At}
 use Rattle.tags_reader.specs.Right.{rightTags, isTags}
@@ -29,24 +29,24 @@ module _ (b : Bytes) where
   unfolding begun startsRight
   no-signature e = rw e
 
-  module _ (signed : begins signature b ≡ true) where
-    pub no-vendor : fitsAt b 8 ≡ false → begun b ≡ Wrong
+  module _ (starts : begins signature b ≡ true) where
+    pub no-vendor : fitsAt b vendorPlace ≡ false → begun b ≡ Wrong
     unfolding begun startsRight
-    no-vendor e = rw (signed, e)
+    no-vendor e = rw (starts, e)
 
-    module _ (fits : fitsAt b 8 ≡ true) where
+    module _ (fits : fitsAt b vendorPlace ≡ true) where
       pub no-characters : utf8 (bytesOf b (vendorPart b)) ≡ false → begun b ≡ Wrong
       unfolding begun startsRight
-      no-characters e = rw (signed, fits, e)
+      no-characters e = rw (starts, fits, e)
 
       module _ (right : utf8 (bytesOf b (vendorPart b)) ≡ true) where
         pub no-count : length b < firstPlace b → begun b ≡ Wrong
         unfolding begun startsRight
-        no-count h = rw (signed, fits, right, lt-leb (firstPlace b) (length b) h)
+        no-count h = rw (starts, fits, right, lt-leb (firstPlace b) (length b) h)
 
         pub at-first : firstPlace b ≤ length b → begun b ≡ At (firstPlace b) false false
         unfolding begun startsRight
-        at-first h = rw (signed, fits, right, le-leb (firstPlace b) (length b) h)
+        at-first h = rw (starts, fits, right, le-leb (firstPlace b) (length b) h)
 
 -- ---- over n comments
 
@@ -87,7 +87,7 @@ walk-decides b (suc n) at t a =
 
 -- ---- over all comments
 
--- the walk tests the vendor before what stands behind it
+-- the walk tests the vendor before what follows it
 reordered : (s f u r a c : Bool) → (s && (f && (u && r))) && (a && c) ≡ (s && (f && (r && a))) && (u && c)
 reordered false f u r a c = refl
 reordered true false u r a c = refl
@@ -109,7 +109,7 @@ walk-is-tags b =
     from-start b n (startsRight b) refl
     ∙ ap (λ (t : Bool). startsRight b && t)
     (walk-decides b n first false false ∙ ap (λ (t : Bool). allFit b n first && t) (right-from (textsFrom b n first)))
-    ∙ reordered (begins signature b) (fitsAt b 8) (utf8 (bytesOf b (vendorPart b))) (leb first (length b)) (allFit b n first)
+    ∙ reordered (begins signature b) (fitsAt b vendorPlace) (utf8 (bytesOf b (vendorPart b))) (leb first (length b)) (allFit b n first)
     (rightComments (textsFrom b n first))
 
 -- ---- comment i on the way
@@ -138,7 +138,7 @@ text-fits b n (At at t a) e = by (fitsAt b at) refl
     by true h = refl
     by false h = absurd (not-wrong b n (rw h at e))
 
--- the place of a walk that is still right: behind one comment, behind n
+-- the place of a walk that is still right: after one comment, after n
 module _ (b : Bytes) (at : ℕ) (t a : Bool) where
   step-place : isRight (stepped b (At at t a)) ≡ true → placeIn (stepped b (At at t a)) ≡ nextPlace b at
   unfolding stepped judged

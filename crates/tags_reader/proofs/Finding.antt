@@ -10,13 +10,15 @@ use lib.ListN.{length}
 use Rattle.octets.specs.Octets.{Bytes, begins}
 use Rattle.octets.proofs.Tests.{both}
 use Rattle.refusal.specs.declared.Refusal.{Refusal}
+use Rattle.refusal.specs.declared.Refusal.the-variants.{BadTags, NoSuchComment}
+use Rattle.refusal.specs.Numbers.{numberOf}
 use Rattle.refusal.specs.Checks.{firstOf, orElse}
 use Rattle.refusal.specs.Told.{gives, refuses, decided, retold}
 use Rattle.refusal.proofs.Checks.{first-of-append, no-refusal}
 use Rattle.tags_comment.specs.Names.{valueOf}
 use Rattle.tags_comment.specs.Gain.{gainOf, gainChecks, commentGain}
 use Rattle.tags_layout.specs.declared.Part.{Part}
-use Rattle.tags_layout.specs.Layout.{signature, partAt, fitsAt, bytesOf, allFit, textsFrom, placeAfter, countOf, firstPlace, nextPlace, isLaidOut, tagsOf}
+use Rattle.tags_layout.specs.Layout.{signature, partAt, fitsAt, bytesOf, allFit, textsFrom, placeAfter, vendorPlace, countOf, firstPlace, nextPlace, isLaidOut, tagsOf}
 use Rattle.tags_layout.specs.Finding.{findText}
 use Rattle.tags_reader.specs.declared.Walk.{Walk}
 use Rattle.tags_reader.specs.Right.{rightTags, isTags}
@@ -27,15 +29,15 @@ use Rattle.tags_reader.proofs.Checking.{walk-is-tags, walk-plus, still-
 -- ---- a packet that is no comment header
 
 module _ (b : Bytes) (wrong : isTags b ≡ false) where
-  pub not-read : retold commentCount (readTags b) ≡ refuses 14
+  pub not-read : retold commentCount (readTags b) ≡ refuses (numberOf BadTags)
   unfolding readTags firstOf
   not-read = rw wrong
 
-  pub no-vendor : findVendor b ≡ refuses 14
+  pub no-vendor : findVendor b ≡ refuses (numberOf BadTags)
   unfolding findVendor firstOf
   no-vendor = rw wrong
 
-  pub not-found : (i : ℕ) → findComment b i ≡ refuses 14
+  pub not-found : (i : ℕ) → findComment b i ≡ refuses (numberOf BadTags)
   unfolding findComment firstOf
   not-found i = rw wrong
 
@@ -46,23 +48,23 @@ unfolding textsFrom
 length-texts b zero at = refl
 length-texts b (suc n) at = ap suc (length-texts b n (nextPlace b at))
 
-vendor-fits : (b : Bytes) → isTags b ≡ true → fitsAt b 8 ≡ true
+vendor-fits : (b : Bytes) → isTags b ≡ true → fitsAt b vendorPlace ≡ true
 unfolding isTags isLaidOut
 vendor-fits b e =
     let laid = both (isLaidOut b) (rightTags (tagsOf b)) e .0 in
     let rest : Bool = leb (firstPlace b) (length b) && allFit b (countOf b) (firstPlace b) in
-    both (fitsAt b 8) rest (both (begins signature b) (fitsAt b 8 && rest) laid .1) .0
+    both (fitsAt b vendorPlace) rest (both (begins signature b) (fitsAt b vendorPlace && rest) laid .1) .0
 
 module _ (b : Bytes) (right : isTags b ≡ true) where
   pub count-read : (n : ℕ) → n ≡ countOf b → gives n ≡ retold commentCount (readTags b)
   unfolding readTags firstOf tagsOf
   count-read n e = rw right (ap gives (e ∙ sym (length-texts b (countOf b) (firstPlace b))))
 
-  pub vendor-found : findText b 8 ≡ findVendor b
+  pub vendor-found : findText b vendorPlace ≡ findVendor b
   unfolding findText findVendor firstOf
   vendor-found = rw (right, vendor-fits b right)
 
-  pub no-such-comment : (i : ℕ) → countOf b ≤ i → findComment b i ≡ refuses 20
+  pub no-such-comment : (i : ℕ) → countOf b ≤ i → findComment b i ≡ refuses (numberOf NoSuchComment)
   unfolding findComment firstOf
   no-such-comment i h = rw (right, le-leb (countOf b) i h)
 

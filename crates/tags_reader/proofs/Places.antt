@@ -15,7 +15,7 @@ use Rattle.refusal.specs.declared.Refusal.the-variants.{BadTags}
 use Rattle.refusal.specs.Checks.{firstOf}
 use Rattle.refusal.specs.Told.{gives}
 use Rattle.refusal.proofs.Checks.{passed, no-refusal}
-use Rattle.tags_layout.specs.Layout.{Tags, signature, partAt, nextPlace, fitsAt, bytesOf, allFit, textsFrom, placeAfter, countOf, firstPlace, commentPlace, isLaidOut, tagsOf}
+use Rattle.tags_layout.specs.Layout.{Tags, signature, partAt, nextPlace, fitsAt, bytesOf, allFit, textsFrom, placeAfter, vendorPlace, countOf, firstPlace, commentPlace, isLaidOut, tagsOf}
 use Rattle.tags_layout.specs.Finding.{findText}
 use Rattle.tags_layout.proofs.Fitting.{inside}
 use Rattle.tags_reader.specs.Right.{rightTags, isTags}
@@ -62,8 +62,8 @@ in-order b i (suc j) at h =
 pub record Read (b : Bytes) (t : Tags) : Type 0 where
   pub right : isTags b ≡ true
   pub value : tagsOf b ≡ t
-  pub signed : begins signature b ≡ true
-  pub vendor : fitsAt b 8 ≡ true
+  pub starts : begins signature b ≡ true
+  pub vendor : fitsAt b vendorPlace ≡ true
   pub counted : firstPlace b ≤ length b
   pub comments : allFit b (countOf b) (firstPlace b) ≡ true
 
@@ -75,13 +75,13 @@ was-read b t e =
     let all : Bool = allFit b (countOf b) (firstPlace b) in
     let count : Bool = leb (firstPlace b) (length b) in
     let laid = both (isLaidOut b) (rightTags (tagsOf b)) right .0 in
-    let one = both (begins signature b) (fitsAt b 8 && (count && all)) laid in
-    let two = both (fitsAt b 8) (count && all) (one .1) in
+    let one = both (begins signature b) (fitsAt b vendorPlace && (count && all)) laid in
+    let two = both (fitsAt b vendorPlace) (count && all) (one .1) in
     let three = both count all (two .1) in
     record {
       right = right;
       value = told .1;
-      signed = one .0;
+      starts = one .0;
       vendor = two .0;
       counted = leb-true (firstPlace b) (length b) (three .0);
       comments = three .1;
@@ -100,10 +100,10 @@ parts-apart b t e =
     let first : ℕ = firstPlace b in
     record {
       vendor = rw (← r .value);
-      vendorInside = inside b 8 (r .vendor);
+      vendorInside = inside b vendorPlace (r .vendor);
       comment = λ i h. rw (← r .value) (text-there b (countOf b) i first (omega (arith, n)));
       commentInside = λ i h. inside b (commentPlace b i) (fits-there b (countOf b) i first (omega (arith, n)) (r .comments));
-      behindVendor = λ i h. omega (arith, not-before b i first);
+      afterVendor = λ i h. omega (arith, not-before b i first);
       inOrder = λ i j l h. omega (arith, in-order b i j first l);
     }
 

@@ -11,7 +11,7 @@ use Rattle.octets.specs.Numbers.{octets, number}
 use Rattle.octets.proofs.Tests.{both}
 use Rattle.octets.proofs.Fields.{field}
 use Rattle.octets.proofs.Beginnings.{begins-take}
-use Rattle.tags_layout.specs.Layout.{signature, partAt, nextPlace, fitsAt, bytesOf, allFit, textsFrom, placeAfter, vendorPart, countPlace, countOf, firstPlace, commentPlace, tagsOf}
+use Rattle.tags_layout.specs.Layout.{signature, partAt, nextPlace, fitsAt, bytesOf, allFit, textsFrom, placeAfter, vendorPlace, vendorPart, countPlace, countOf, firstPlace, commentPlace, tagsOf}
 use Rattle.tags_layout.proofs.Fitting.{inside}
 use Rattle.tags_reader.specs.Packet.{textBytes, commentsBytes, tagsBytes}
 use Rattle.tags_reader.specs.Statements.{PartsTogether}
@@ -51,12 +51,12 @@ parts-together b t o e =
     let x : Bytes = drop (commentPlace b (countOf b)) b in
     let fourth : c ++ x ≡ drop (firstPlace b) b = comments-back b (countOf b) (firstPlace b) o (r .comments) in
     let third : k ++ drop (firstPlace b) b ≡ drop (countPlace b) b = field 4 (countPlace b) b o (r .counted) in
-    let second : v ++ drop (countPlace b) b ≡ drop 8 b = text-back b 8 o (r .vendor) in
-    let first : s ++ drop 8 b ≡ b = rw (begins-take signature b (r .signed)) at (take-append-drop 8 b) in
-    let behind : v ++ k ++ c ++ x ≡ drop 8 b =
+    let second : v ++ drop (countPlace b) b ≡ drop vendorPlace b = text-back b vendorPlace o (r .vendor) in
+    let first : s ++ drop vendorPlace b ≡ b = rw (begins-take signature b (r .starts)) at (take-append-drop vendorPlace b) in
+    let after : v ++ k ++ c ++ x ≡ drop vendorPlace b =
     (append-assoc (v ++ k) c x
     ∙ append-assoc v k (c ++ x)
     ∙ ap (λ (l : Bytes). v ++ (k ++ l)) fourth
     ∙ ap (λ (l : Bytes). v ++ l) third
     ∙ second) in
-    rw (← r .value, length-texts b (countOf b) (firstPlace b)) (ap (λ (l : Bytes). s ++ l) behind ∙ first)
+    rw (← r .value, length-texts b (countOf b) (firstPlace b)) (ap (λ (l : Bytes). s ++ l) after ∙ first)

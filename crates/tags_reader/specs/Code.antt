@@ -10,7 +10,7 @@ use Rattle.utf8.specs.Characters.{utf8}
 use Rattle.tags_rules.specs.declared.Gains.{Gains}
 use Rattle.tags_rules.specs.declared.Gains.the-variants.{Wrong as WrongComment, Seen}
 use Rattle.tags_rules.specs.Code.{judged}
-use Rattle.tags_layout.specs.Layout.{signature, partAt, nextPlace, fitsAt, bytesOf, vendorPart, firstPlace}
+use Rattle.tags_layout.specs.Layout.{signature, partAt, nextPlace, fitsAt, bytesOf, vendorPlace, vendorPart, firstPlace}
 use Rattle.tags_reader.specs.declared.Walk.{Walk}
 use Rattle.tags_reader.specs.declared.Walk.the-variants.{Wrong, At}
 
@@ -30,7 +30,8 @@ walked b (suc n) w = walked b n (stepped b w)
 -- at the first comment, where all before it is right
 unfoldable pub startsRight : Bytes → Bool
 startsRight b =
-    begins signature b && (fitsAt b 8 && (utf8 (bytesOf b (vendorPart b)) && leb (firstPlace b) (length b)))
+    begins signature b
+    && (fitsAt b vendorPlace && (utf8 (bytesOf b (vendorPart b)) && leb (firstPlace b) (length b)))
 
 unfoldable pub begun : Bytes → Walk
 begun b = pick (startsRight b) (At (firstPlace b) false false) Wrong

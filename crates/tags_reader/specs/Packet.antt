@@ -5,7 +5,7 @@ use Rattle.octets.specs.Octets.{Bytes}
 use Rattle.octets.specs.Numbers.{octets}
 use Rattle.tags_layout.specs.Layout.{signature, Tags}
 
--- the bytes of a text behind its length
+-- the bytes of a text after its length
 unfoldable pub textBytes : Bytes → Bytes
 textBytes t = octets 4 (length t) ++ t
 

@@ -18,13 +18,13 @@ PartsTogether = (b : Bytes) (t : Tags) → Octets b → readTags b ≡ gives t �
 abbrev pub endOf : Part → ℕ
 endOf p = p .start + p .size
 
--- the vendor and the comments lie inside the packet, one behind the other
+-- the vendor and the comments lie inside the packet, one after the other
 pub record Apart (b : Bytes) (t : Tags) : Type 0 where
   pub vendor : bytesOf b (vendorPart b) ≡ t .vendor
   pub vendorInside : endOf (vendorPart b) ≤ length b
   pub comment : (i : ℕ) → i < commentCount t → bytesOf b (commentPart b i) ≡ getD (t .comments) i []
   pub commentInside : (i : ℕ) → i < commentCount t → endOf (commentPart b i) ≤ length b
-  pub behindVendor : (i : ℕ) → i < commentCount t → endOf (vendorPart b) ≤ commentPart b i .start
+  pub afterVendor : (i : ℕ) → i < commentCount t → endOf (vendorPart b) ≤ commentPart b i .start
   pub inOrder : (i j : ℕ) → i < j → j < commentCount t → endOf (commentPart b i) ≤ commentPart b j .start
 
 abbrev pub PartsApart : Type 0

@@ -7,6 +7,9 @@ ghost use Rattle.tags_reader.specs.Reading.{readTags, commentCount, find
 ghost use Rattle.tags_reader.specs.Code.{stepped, walked, begun, isRight, placeIn};
 use refusal::Refusal;
 use tags_layout::PartRead;
+use tags_layout::SIGNATURE;
+use tags_layout::VENDOR_PLACE;
+use tags_layout::VENDOR_START;
 use tags_rules::Gains;
 
 pub enum TagsRead {
@@ -63,14 +66,14 @@ fn walk_by(b: &[u8], from: Walk, n: usize) -> Walk
 fn begin(b: &[u8]) -> Walk
     ensures { λ r. ⌜ r ≡ begun (now (b .entry)) ⌝ }
 {
-    if !octets::begins_with(b, b"OpusTags") {
+    if !octets::begins_with(b, &SIGNATURE) {
         return Walk::Wrong;
     }
-    if !tags_layout::fits_at(b, 8) {
+    if !tags_layout::fits_at(b, VENDOR_PLACE) {
         return Walk::Wrong;
     }
-    let vendor = number_reader::number32(b, 8) as usize;
-    if !utf8::is_utf8(octets::part_of(b, 12, vendor)) {
+    let vendor = tags_layout::vendor_size(b) as usize;
+    if !utf8::is_utf8(octets::part_of(b, VENDOR_START, vendor)) {
         return Walk::Wrong;
     }
     let first = tags_layout::first_comment(b);
@@ -124,10 +127,10 @@ pub fn find_vendor(b: &[u8]) -> PartRead
     if !is_tags(b) {
         return PartRead::Refused(Refusal::BadTags);
     }
-    tags_layout::find_text(b, 8)
+    tags_layout::find_text(b, VENDOR_PLACE)
 }
 
-// Where comment i lies. The comments before it and those behind it are walked once each. 14: the packet is no comment
+// Where comment i lies. The comments before it and those after it are walked once each. 14: the packet is no comment
 // header. 20: it has no such comment.
 pub fn find_comment(b: &[u8], i: usize) -> PartRead
     ensures { λ r. ⌜ toldPart r ≡ findComment (now (b .entry)) i ⌝ }

@@ -16,7 +16,7 @@ pub and-false : (t : Bool) → t && false ≡ false
 and-false true = refl
 and-false false = refl
 
--- the tests of one comment and of those behind it, sorted by what they test
+-- the tests of one comment and of those after it, sorted by what they test
 sorted : (r p q s u v : Bool) → (r && (p && q)) && (s && (u && v)) ≡ (r && s) && ((p && u) && (q && v))
 sorted false p q s u v = refl
 sorted true p q false u v = and-false (p && q)
@@ -30,7 +30,7 @@ one t = pick t 1 0
 same : (m n : ℕ) → m ≡ n → leb m 1 ≡ leb n 1
 same m n e = ap (λ (k : ℕ). leb k 1) e
 
--- a gain that was seen or not, and n times behind the one here
+-- a gain that was seen or not, and n times after the one here
 at-most-one : (t x : Bool) (n : ℕ) → not (t && x) && leb (one (t || x) + n) 1 ≡ leb (one t + (one x + n)) 1
 at-most-one true true n = sym (lt-leb (1 + (1 + n)) 1 (omega arith))
 at-most-one true false n = same (1 + n) (1 + (0 + n)) (omega arith)

@@ -19,4 +19,5 @@ judged c track album = pick (goesOn c track album) (Seen (track || isNamed track
 -- the comments are right where these gains were seen before
 unfoldable pub rightFrom : Bool → Bool → List Bytes → Bool
 rightFrom track album [] = true
-rightFrom track album (c ∷ cs) = goesOn c track album && rightFrom (track || isNamed trackGain c) (album || isNamed albumGain c) cs
+rightFrom track album (c ∷ cs) =
+    goesOn c track album && rightFrom (track || isNamed trackGain c) (album || isNamed albumGain c) cs

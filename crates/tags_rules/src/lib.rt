@@ -1,5 +1,7 @@
 // The comments of a comment header together (RFC 7845, 5.2 and 5.2.1): each is right, and neither gain is there twice.
 ghost use mathlib.Core.Path.{_≡_};
+ghost use Rattle.tags_comment.specs.Names.{isNamed};
+ghost use Rattle.tags_rules.specs.Right.{trackGain, albumGain};
 ghost use Rattle.tags_rules.specs.Code.{judged};
 
 // Which of the two gains were seen, up to a comment.
@@ -8,15 +10,29 @@ pub enum Gains {
     Seen(bool, bool),
 }
 
-// One comment more. A gain may stand in one comment only.
+// Whether the comment is named as the gain of the track.
+pub fn is_track_gain(c: &[u8]) -> bool
+    ensures { λ r. ⌜ r ≡ isNamed trackGain (now (c .entry)) ⌝ }
+{
+    tags_comment::is_named(b"R128_TRACK_GAIN", c)
+}
+
+// Whether the comment is named as the gain of the album.
+pub fn is_album_gain(c: &[u8]) -> bool
+    ensures { λ r. ⌜ r ≡ isNamed albumGain (now (c .entry)) ⌝ }
+{
+    tags_comment::is_named(b"R128_ALBUM_GAIN", c)
+}
+
+// One comment more. Each gain may be in one comment only.
 pub fn judge(c: &[u8], track: bool, album: bool) -> Gains
     ensures { λ r. ⌜ r ≡ judged (now (c .entry)) track album ⌝ }
 {
     if !tags_comment::right_comment(c) {
         return Gains::Wrong;
     }
-    let is_track = tags_comment::is_named(b"R128_TRACK_GAIN", c);
-    let is_album = tags_comment::is_named(b"R128_ALBUM_GAIN", c);
+    let is_track = is_track_gain(c);
+    let is_album = is_album_gain(c);
     if track & is_track {
         return Gains::Wrong;
     }

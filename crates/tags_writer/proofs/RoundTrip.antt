@@ -11,6 +11,7 @@ use Rattle.octets.specs.Octets.{Bytes, begins, total}
 use Rattle.octets.specs.Numbers.{octets, number}
 use Rattle.octets.proofs.Numbers.{length-octets, value-octets}
 use Rattle.octets.proofs.Copying.{copied-fits}
+use Rattle.limits.specs.Limits.{packetMax}
 use Rattle.refusal.specs.Checks.{firstOf}
 use Rattle.refusal.specs.Told.{gives}
 use Rattle.refusal.proofs.Checks.{no-refusal, passed}
@@ -23,21 +24,21 @@ use Rattle.tags_writer.specs.Writing.{cutBy, given, packetOf, writeCheck
 use Rattle.tags_writer.specs.Statements.{ReadsBack}
 use Rattle.tags_writer.proofs.Laying.{length-text, length-cut, length-comments, length-packet}
 
--- a number that stands behind a
+-- a number right after a
 number-there : (p a r : Bytes) (x : ℕ) → p ≡ a ++ (octets 4 x ++ r) → x < 256 ^ 4 → number 4 p (length a) ≡ x
 unfolding number
 number-there p a r x e h =
     rw (e, drop-at a (octets 4 x ++ r) (length a) refl, take-at (octets 4 x) r 4 (length-octets 4 x)) (value-octets 4 x h)
 
--- ---- a text that stands behind a
+-- ---- a text right after a
 
 module _ (p a t r : Bytes) (whole : p ≡ a ++ (textBytes t ++ r)) (small : length t < 256 ^ 4) where
-  behind-length : p ≡ a ++ (octets 4 (length t) ++ (t ++ r))
+  after-length : p ≡ a ++ (octets 4 (length t) ++ (t ++ r))
   unfolding textBytes
-  behind-length = whole ∙ ap (λ (l : Bytes). a ++ l) (append-assoc (octets 4 (length t)) t r)
+  after-length = whole ∙ ap (λ (l : Bytes). a ++ l) (append-assoc (octets 4 (length t)) t r)
 
   size-there : number 4 p (length a) ≡ length t
-  size-there = number-there p a (t ++ r) (length t) behind-length small
+  size-there = number-there p a (t ++ r) (length t) after-length small
 
   whole-length : length p ≡ length a + 4 + length t + length r
   whole-length = ap length whole ∙ length-append a (textBytes t ++ r) ∙ omega (arith, length-append (textBytes t) r, length-text t)
@@ -57,10 +58,10 @@ module _ (p a t r : Bytes) (whole : p ≡ a ++ (textBytes t ++ r)) (small : leng
   bytes-there =
       let front : Bytes = a ++ octets 4 (length t) in
       let long : length front ≡ length a + 4 = omega (arith, length-append a (octets 4 (length t)), length-octets 4 (length t)) in
-      let cut : p ≡ front ++ (t ++ r) = behind-length ∙ sym (append-assoc a (octets 4 (length t)) (t ++ r)) in
+      let cut : p ≡ front ++ (t ++ r) = after-length ∙ sym (append-assoc a (octets 4 (length t)) (t ++ r)) in
       rw (size-there, cut, drop-at front (t ++ r) (length a + 4) long) (take-at t r (length t) refl)
 
--- ---- comments that stand behind a
+-- ---- comments right after a
 
 record There (p a : Bytes) (cs : List Bytes) : Type 0 where
   fit : allFit p (length cs) (length a) ≡ true
@@ -102,31 +103,31 @@ module _ (vendor : Bytes) (cs : List Bytes) (short : length vendor < 256 ^ 4) (f
   abbrev c : Bytes
   c = commentsBytes cs
 
-  -- the parts behind the signature, behind the vendor, behind the number
-  behind-signature : p ≡ signature ++ (v ++ (k ++ (c ++ [])))
+  -- the parts after the signature, after the vendor, after the number
+  after-signature : p ≡ signature ++ (v ++ (k ++ (c ++ [])))
   unfolding tagsBytes
-  behind-signature = ap (λ (l : Bytes). signature ++ l) (append-assoc (v ++ k) c [] ∙ append-assoc v k (c ++ []))
+  after-signature = ap (λ (l : Bytes). signature ++ l) (append-assoc (v ++ k) c [] ∙ append-assoc v k (c ++ []))
 
-  behind-vendor : p ≡ (signature ++ v) ++ (k ++ (c ++ []))
-  behind-vendor = behind-signature ∙ sym (append-assoc signature v (k ++ (c ++ [])))
+  after-vendor : p ≡ (signature ++ v) ++ (k ++ (c ++ []))
+  after-vendor = after-signature ∙ sym (append-assoc signature v (k ++ (c ++ [])))
 
-  behind-count : p ≡ ((signature ++ v) ++ k) ++ (c ++ [])
-  behind-count = behind-vendor ∙ sym (append-assoc (signature ++ v) k (c ++ []))
+  after-count : p ≡ ((signature ++ v) ++ k) ++ (c ++ [])
+  after-count = after-vendor ∙ sym (append-assoc (signature ++ v) k (c ++ []))
 
   count-place : countPlace p ≡ length (signature ++ v)
-  count-place = next-there p signature vendor (k ++ (c ++ [])) behind-signature short
+  count-place = next-there p signature vendor (k ++ (c ++ [])) after-signature short
 
   count-there : countOf p ≡ length cs
-  count-there = ap (number 4 p) count-place ∙ number-there p (signature ++ v) (c ++ []) (length cs) behind-vendor few
+  count-there = ap (number 4 p) count-place ∙ number-there p (signature ++ v) (c ++ []) (length cs) after-vendor few
 
   first-place : firstPlace p ≡ length ((signature ++ v) ++ k)
   first-place = omega (arith, count-place, length-append (signature ++ v) k, length-octets 4 (length cs))
 
   there : There p ((signature ++ v) ++ k) cs
-  there = comments-there p ((signature ++ v) ++ k) [] cs behind-count small
+  there = comments-there p ((signature ++ v) ++ k) [] cs after-count small
 
   all-length : length p ≡ length (((signature ++ v) ++ k) ++ c)
-  all-length = ap length (behind-count ∙ ap (λ (l : Bytes). ((signature ++ v) ++ k) ++ l) (append-nil c))
+  all-length = ap length (after-count ∙ ap (λ (l : Bytes). ((signature ++ v) ++ k) ++ l) (append-nil c))
 
   end-place : commentPlace p (countOf p) ≡ length p
   end-place = ap₂ (placeAfter p) count-there first-place ∙ there .place ∙ sym all-length
@@ -138,7 +139,7 @@ module _ (vendor : Bytes) (cs : List Bytes) (short : length vendor < 256 ^ 4) (f
       → _≡_ {A = Tags} (record { vendor = x; comments = l; trailing = r }) (record { vendor = y; comments = m; trailing = q }) =
       (λ x y l m r q e f g. rw (e, f, g)) in
       same (bytesOf p (vendorPart p)) vendor (textsFrom p (countOf p) (firstPlace p)) cs (drop (commentPlace p (countOf p)) p) []
-      (bytes-there p signature vendor (k ++ (c ++ [])) behind-signature short)
+      (bytes-there p signature vendor (k ++ (c ++ [])) after-signature short)
       (ap₂ (textsFrom p) count-there first-place ∙ there .texts)
       (drop-of-length-le p {i = commentPlace p (countOf p)} (omega (arith, end-place)))
 
@@ -148,8 +149,8 @@ module _ (vendor : Bytes) (cs : List Bytes) (short : length vendor < 256 ^ 4) (f
       let all : allFit p (countOf p) (firstPlace p) ≡ true = ap₂ (allFit p) count-there first-place ∙ there .fit in
       let count : firstPlace p ≤ length p =
       (omega (arith, first-place, all-length, length-append ((signature ++ v) ++ k) c)) in
-      let start : begins signature p ≡ true = rw behind-signature (begins-append signature (v ++ (k ++ (c ++ [])))) in
-      rw (start, fits-there p signature vendor (k ++ (c ++ [])) behind-signature short, le-leb (firstPlace p) (length p) count) all
+      let start : begins signature p ≡ true = rw after-signature (begins-append signature (v ++ (k ++ (c ++ [])))) in
+      rw (start, fits-there p signature vendor (k ++ (c ++ [])) after-signature short, le-leb (firstPlace p) (length p) count) all
 
   pub read-back : rightTags t ≡ true → readTags p ≡ gives t
   unfolding readTags isTags firstOf
@@ -166,7 +167,7 @@ reads-back vendor text ns out n e =
     let size = passed _ _ _ (sums .1) in
     let right = passed _ _ _ (size .1) in
     let sum : total ns ≡ length text = eqb-true _ _ (not-false _ (sums .0)) in
-    let most : length p ≤ 61440 = ltb-false _ _ (size .0) in
+    let most : length p ≤ packetMax = ltb-false _ _ (size .0) in
     let room : length p ≤ length out = ltb-false _ _ (passed _ _ _ (right .1) .0) in
     let long = length-packet vendor text ns sum in
     let count = length-cut ns text in

@@ -3,13 +3,14 @@ use mathlib.Core.Path.{_≡_, refl, sym, ap}
 use mathlib.Core.Bool.{Bool, true, false, _&&_}
 use mathlib.Core.List.{List}
 use mathlib.Core.Option.{none, some}
-use Prim.Native.Nat.{ℕ, _+_, _*_, _≤_, _<_}
+use Prim.Native.Nat.{ℕ, _≤_, _<_}
 use native.Mathlib.Omega.{arith}
 use borrow.Author.Tests.{lt-ltb, le-ltb, le-leb, lt-leb, leb-true, leb-false, eqb-true}
 use lib.Dec.{leb, eqb}
 use lib.ListN.{length}
 use Rattle.octets.specs.Octets.{Bytes, total, copied}
 use Rattle.octets.proofs.Tests.{both}
+use Rattle.limits.specs.Limits.{packetMax}
 use Rattle.utf8.specs.Characters.{utf8}
 use Rattle.refusal.specs.declared.Refusal.the-variants.{ShortOutput, UnfitFields}
 use Rattle.refusal.specs.Checks.{firstOf}
@@ -19,7 +20,7 @@ use Rattle.tags_rules.specs.Right.{rightComments}
 use Rattle.tags_reader.specs.Right.{rightTags}
 use Rattle.tags_writer.specs.Writing.{cutBy, given, packetOf, writeChecks, writeTold, writeOut, Wrote}
 use Rattle.tags_rules.specs.Code.{rightFrom}
-use Rattle.tags_writer.specs.Code.{rightLengths, rightFields}
+use Rattle.tags_writer.specs.Code.{rightLengths, packetSize, rightFields}
 use Rattle.tags_rules.proofs.Counting.{and-false, right-from}
 use Rattle.tags_writer.proofs.Laying.{length-packet}
 
@@ -28,7 +29,7 @@ module _ (vendor text : Bytes) (ns : List ℕ) where
   sums = eqb (total ns) (length text)
 
   abbrev size : ℕ
-  size = 16 + length vendor + length text + 4 * length ns
+  size = packetSize vendor text ns
 
   -- the packet is as long as its parts, where the lengths sum to the text
   packet-size : sums ≡ true → length (packetOf vendor text ns) ≡ size
@@ -36,55 +37,55 @@ module _ (vendor text : Bytes) (ns : List ℕ) where
 
   -- ---- the test that the code makes
 
-  pub too-big : 61440 < size → rightFields vendor text ns ≡ false
+  pub too-big : packetMax < size → rightFields vendor text ns ≡ false
   unfolding rightFields
   too-big h = by sums refl
     where
-      by : (t : Bool) → sums ≡ t → t && (leb (length (packetOf vendor text ns)) 61440 && rightTags (given vendor text ns)) ≡ false
-      by true e = rw (lt-leb (length (packetOf vendor text ns)) 61440 (omega (arith, packet-size e)))
+      by : (t : Bool) → sums ≡ t → t && (leb (length (packetOf vendor text ns)) packetMax && rightTags (given vendor text ns)) ≡ false
+      by true e = rw (lt-leb (length (packetOf vendor text ns)) packetMax (omega (arith, packet-size e)))
       by false e = refl
 
   pub wrong-vendor : utf8 vendor ≡ false → rightFields vendor text ns ≡ false
   unfolding rightFields rightTags
-  wrong-vendor e = rw (e, and-false (leb (length (packetOf vendor text ns)) 61440)) (and-false sums)
+  wrong-vendor e = rw (e, and-false (leb (length (packetOf vendor text ns)) packetMax)) (and-false sums)
 
-  pub lengths-decide : utf8 vendor ≡ true → size ≤ 61440 → rightLengths text ns ≡ rightFields vendor text ns
+  pub lengths-decide : utf8 vendor ≡ true → size ≤ packetMax → rightLengths text ns ≡ rightFields vendor text ns
   unfolding rightLengths rightFields rightTags
   lengths-decide e h = rw e (by sums refl)
     where
       by : (t : Bool) → sums ≡ t
-          → t && rightFrom false false (cutBy ns text) ≡ t && (leb (length (packetOf vendor text ns)) 61440 && rightComments (cutBy ns text))
-      by true p = rw (le-leb (length (packetOf vendor text ns)) 61440 (omega (arith, packet-size p))) (right-from (cutBy ns text))
+          → t && rightFrom false false (cutBy ns text) ≡ t && (leb (length (packetOf vendor text ns)) packetMax && rightComments (cutBy ns text))
+      by true p = rw (le-leb (length (packetOf vendor text ns)) packetMax (omega (arith, packet-size p))) (right-from (cutBy ns text))
       by false p = refl
 
   -- ---- what follows from it
 
   -- each of the three tests
-  tested : rightFields vendor text ns ≡ true → (sums ≡ true) × (length (packetOf vendor text ns) ≤ 61440) × (rightTags (given vendor text ns) ≡ true)
+  tested : rightFields vendor text ns ≡ true → (sums ≡ true) × (length (packetOf vendor text ns) ≤ packetMax) × (rightTags (given vendor text ns) ≡ true)
   unfolding rightFields
   tested e =
       let n : ℕ = length (packetOf vendor text ns) in
       let right : Bool = rightTags (given vendor text ns) in
-      let first = both sums (leb n 61440 && right) e in
-      let second = both (leb n 61440) right (first .1) in
-      (first .0, leb-true n 61440 (second .0), second .1)
+      let first = both sums (leb n packetMax && right) e in
+      let second = both (leb n packetMax) right (first .1) in
+      (first .0, leb-true n packetMax (second .0), second .1)
 
   pub sums-right : rightFields vendor text ns ≡ true → total ns ≡ length text
   sums-right e = eqb-true (total ns) (length text) (tested e .0)
 
-  pub size-right : rightFields vendor text ns ≡ true → (length (packetOf vendor text ns) ≡ size) × (size ≤ 61440)
+  pub size-right : rightFields vendor text ns ≡ true → (length (packetOf vendor text ns) ≡ size) × (size ≤ packetMax)
   size-right e = let same = packet-size (tested e .0) in (same, omega (arith, same, tested e .1))
 
   unfit : rightFields vendor text ns ≡ false → (room : ℕ) → firstOf (writeChecks vendor text ns room) ≡ some UnfitFields
   unfolding rightFields firstOf
-  unfit e room = by sums (leb (length (packetOf vendor text ns)) 61440) refl refl
+  unfit e room = by sums (leb (length (packetOf vendor text ns)) packetMax) refl refl
     where
-      by : (s l : Bool) → sums ≡ s → leb (length (packetOf vendor text ns)) 61440 ≡ l → firstOf (writeChecks vendor text ns room) ≡ some UnfitFields
+      by : (s l : Bool) → sums ≡ s → leb (length (packetOf vendor text ns)) packetMax ≡ l → firstOf (writeChecks vendor text ns room) ≡ some UnfitFields
       by false l p q = rw p
-      by true false p q = rw (p, lt-ltb 61440 (length (packetOf vendor text ns)) (leb-false (length (packetOf vendor text ns)) 61440 q))
+      by true false p q = rw (p, lt-ltb packetMax (length (packetOf vendor text ns)) (leb-false (length (packetOf vendor text ns)) packetMax q))
       by true true p q =
           let wrong : rightTags (given vendor text ns) ≡ false = rw (p, q) at e in
-          rw (p, le-ltb 61440 (length (packetOf vendor text ns)) (leb-true (length (packetOf vendor text ns)) 61440 q), wrong)
+          rw (p, le-ltb packetMax (length (packetOf vendor text ns)) (leb-true (length (packetOf vendor text ns)) packetMax q), wrong)
 
   module _ (right : rightFields vendor text ns ≡ true) (room : ℕ) where
     short : room < size → firstOf (writeChecks vendor text ns room) ≡ some ShortOutput
@@ -93,18 +94,18 @@ module _ (vendor text : Bytes) (ns : List ℕ) where
         let t = tested right in
         rw (
           t .0,
-          le-ltb 61440 (length (packetOf vendor text ns)) (t .1),
+          le-ltb packetMax (length (packetOf vendor text ns)) (t .1),
           t .2,
           lt-ltb room (length (packetOf vendor text ns)) (omega (arith, packet-size (t .0))),
         )
 
-    fits : size ≤ room → firstOf (writeChecks vendor text ns room) ≡ none
+    enough : size ≤ room → firstOf (writeChecks vendor text ns room) ≡ none
     unfolding firstOf
-    fits h =
+    enough h =
         let t = tested right in
         rw (
           t .0,
-          le-ltb 61440 (length (packetOf vendor text ns)) (t .1),
+          le-ltb packetMax (length (packetOf vendor text ns)) (t .1),
           t .2,
           le-ltb room (length (packetOf vendor text ns)) (omega (arith, packet-size (t .0))),
         )
@@ -124,6 +125,6 @@ module _ (vendor text : Bytes) (ns : List ℕ) where
   unfolding writeTold writeOut
   wrote-packet out end e h put =
       record {
-        told = rw (fits e (length out) h) (ap gives (sym (packet-size (tested e .0))));
-        output = rw (fits e (length out) h) put;
+        told = rw (enough e (length out) h) (ap gives (sym (packet-size (tested e .0))));
+        output = rw (enough e (length out) h) put;
       }

@@ -8,6 +8,7 @@ use mathlib.Core.Option.{Option, none, some}
 use lib.Dec.{ltb, eqb}
 use lib.ListN.{length, take, drop}
 use Rattle.octets.specs.Octets.{Bytes, total, copied}
+use Rattle.limits.specs.Limits.{packetMax}
 use Rattle.refusal.specs.declared.Refusal.{Refusal}
 use Rattle.refusal.specs.declared.Refusal.the-variants.{ShortOutput, UnfitFields}
 use Rattle.refusal.specs.Checks.{Check, _when_, firstOf}
@@ -15,7 +16,7 @@ use Rattle.refusal.specs.Told.{Told, gives, refuses, decided}
 use Rattle.refusal.specs.Numbers.{numberOf}
 use Rattle.tags_layout.specs.Layout.{Tags}
 use Rattle.tags_reader.specs.Right.{rightTags}
-use Rattle.tags_reader.specs.Packet.{tagsBytes}
+use Rattle.tags_reader.specs.Packet.{commentsBytes, tagsBytes}
 use Rattle.tags_writer.specs.declared.TagsWritten.{TagsWritten}
 use Rattle.tags_writer.specs.declared.TagsWritten.the-variants.{Bytes as Written, Refused}
 
@@ -23,6 +24,10 @@ use Rattle.tags_writer.specs.declared.TagsWritten.the-variants.{Bytes as
 unfoldable pub cutBy : List ℕ → Bytes → List Bytes
 cutBy [] s = []
 cutBy (n ∷ ns) s = take n s ∷ cutBy ns (drop n s)
+
+-- the bytes of these comments
+abbrev pub commentsOf : Bytes → List ℕ → Bytes
+commentsOf text ns = commentsBytes (cutBy ns text)
 
 -- what is to be written: no trailing bytes
 abbrev pub given : Bytes → Bytes → List ℕ → Tags
@@ -34,7 +39,7 @@ packetOf vendor text ns = tagsBytes (given vendor text ns)
 abbrev pub writeChecks : Bytes → Bytes → List ℕ → ℕ → List Check
 writeChecks vendor text ns room =
     UnfitFields when not (eqb (total ns) (length text))
-    ∷ UnfitFields when ltb 61440 (length (packetOf vendor text ns))
+    ∷ UnfitFields when ltb packetMax (length (packetOf vendor text ns))
     ∷ UnfitFields when not (rightTags (given vendor text ns))
     ∷ ShortOutput when ltb room (length (packetOf vendor text ns))
     ∷ []

@@ -1,12 +1,16 @@
 // Writing the comment header of an Ogg Opus stream (RFC 7845, 5.2).
-ghost use Prim.Native.Nat.{_+_, _*_, _≤_};
 ghost use mathlib.Core.Path.{_≡_};
-ghost use lib.ListN.{length};
-ghost use Rattle.octets.specs.Octets.{total, copied};
-ghost use Rattle.tags_reader.specs.Packet.{textBytes, commentsBytes};
-ghost use Rattle.tags_writer.specs.Writing.{cutBy, packetOf, Wrote};
-ghost use Rattle.tags_writer.specs.Code.{rightLengths, rightFields};
+ghost use Rattle.octets.specs.Octets.{copied};
+ghost use Rattle.tags_reader.specs.Packet.{textBytes};
+ghost use Rattle.tags_writer.specs.Writing.{commentsOf, packetOf, Wrote};
+ghost use Rattle.tags_writer.specs.Code.{rightLengths, packetSize, SmallParts, rightFields};
+ghost use Rattle.tags_writer.specs.Code.{TextRoom, CommentsRoom, PacketRoom};
+use limits::PACKET_MAX;
 use refusal::Refusal;
+use tags_layout::EMPTY_SIZE;
+use tags_layout::SIGNATURE;
+use tags_layout::VENDOR_PLACE;
+use tags_layout::VENDOR_START;
 use tags_rules::Gains;
 
 pub enum TagsWritten {
@@ -39,20 +43,28 @@ fn right_lengths(text: &[u8], lengths: &[u64]) -> bool
     at == text.len()
 }
 
-// Whether a packet of these fields is one that reading takes, of at most 61,440 bytes.
+// How long the packet of these fields is.
+fn packet_size(vendor: &[u8], text: &[u8], lengths: &[u64]) -> usize
+    requires { ⌜ SmallParts (now vendor) (now text) (now lengths) ⌝ }
+    ensures { λ r. ⌜ r ≡ packetSize (now (vendor .entry)) (now (text .entry)) (now (lengths .entry)) ⌝ }
+{
+    EMPTY_SIZE + vendor.len() + text.len() + 4 * lengths.len()
+}
+
+// Whether a packet of these fields is one that reading takes, and no longer than a packet may be.
 fn right_fields(vendor: &[u8], text: &[u8], lengths: &[u64]) -> bool
     ensures { λ r. ⌜ r ≡ rightFields (now (vendor .entry)) (now (text .entry)) (now (lengths .entry)) ⌝ }
 {
-    if vendor.len() > 61440 {
+    if vendor.len() > PACKET_MAX {
         return false;
     }
-    if text.len() > 61440 {
+    if text.len() > PACKET_MAX {
         return false;
     }
-    if lengths.len() > 61440 {
+    if lengths.len() > PACKET_MAX {
         return false;
     }
-    if 16 + vendor.len() + text.len() + 4 * lengths.len() > 61440 {
+    if packet_size(vendor, text, lengths) > PACKET_MAX {
         return false;
     }
     if !utf8::is_utf8(vendor) {
@@ -61,10 +73,9 @@ fn right_fields(vendor: &[u8], text: &[u8], lengths: &[u64]) -> bool
     right_lengths(text, lengths)
 }
 
-// A text behind its length, into an output with room for it.
+// A text after its length, into an output with room for it.
 fn put_text(out: &mut [u8], at: usize, t: &[u8])
-    requires { ⌜ at + 4 + length (now t) ≤ length (now out) ⌝ }
-    requires { ⌜ length (now t) ≤ 61440 ⌝ }
+    requires { ⌜ TextRoom (now out) at (now t) ⌝ }
     ensures { λ _. ⌜ now (out .exit) ≡ copied (now (out .entry)) at (textBytes (now (t .entry))) ⌝ }
 {
     number_writer::put32(out, at, t.len() as u32);
@@ -73,10 +84,8 @@ fn put_text(out: &mut [u8], at: usize, t: &[u8])
 
 // The comments one after the other, into an output with room for them.
 fn put_comments(out: &mut [u8], start: usize, text: &[u8], lengths: &[u64])
-    requires { ⌜ total (now lengths) ≡ length (now text) ⌝ }
-    requires { ⌜ length (now text) ≤ 61440 ⌝ }
-    requires { ⌜ start + 4 * length (now lengths) + length (now text) ≤ length (now out) ⌝ }
-    ensures { λ _. ⌜ now (out .exit) ≡ copied (now (out .entry)) start (commentsBytes (cutBy (now (lengths .entry)) (now (text .entry)))) ⌝ }
+    requires { ⌜ CommentsRoom (now out) start (now text) (now lengths) ⌝ }
+    ensures { λ _. ⌜ now (out .exit) ≡ copied (now (out .entry)) start (commentsOf (now (text .entry)) (now (lengths .entry))) ⌝ }
 {
     let mut at = start;
     let mut from = 0;
@@ -92,28 +101,28 @@ fn put_comments(out: &mut [u8], start: usize, text: &[u8], lengths: &[u64])
 
 // A packet of right fields, into an output with room for it.
 fn put_tags(vendor: &[u8], text: &[u8], lengths: &[u64], out: &mut [u8])
-    requires { ⌜ total (now lengths) ≡ length (now text) ⌝ }
-    requires { ⌜ 16 + length (now vendor) + length (now text) + 4 * length (now lengths) ≤ 61440 ⌝ }
-    requires { ⌜ 16 + length (now vendor) + length (now text) + 4 * length (now lengths) ≤ length (now out) ⌝ }
-    ensures { λ _. ⌜ now (out .exit) ≡ copied (now (out .entry)) 0 (packetOf (now (vendor .entry)) (now (text .entry)) (now (lengths .entry))) ⌝ }
+    requires { ⌜ PacketRoom (now out) (now vendor) (now text) (now lengths) ⌝ }
+    ensures { λ _. ⌜ now (out .exit)
+        ≡ copied (now (out .entry)) 0 (packetOf (now (vendor .entry)) (now (text .entry)) (now (lengths .entry))) ⌝ }
 {
-    octets::copy_at(out, 0, b"OpusTags");
-    put_text(out, 8, vendor);
-    let at = 12 + vendor.len();
+    octets::copy_at(out, 0, &SIGNATURE);
+    put_text(out, VENDOR_PLACE, vendor);
+    let at = VENDOR_START + vendor.len();
     number_writer::put32(out, at, lengths.len() as u32);
     put_comments(out, at + 4, text, lengths);
 }
 
-// The comment header of a vendor and of comments that stand joined in `text`, written to the start of `out`. 23: the lengths
-// do not sum to the text, the packet would be longer than 61,440 bytes, or reading would refuse it. 22: `out` is shorter than
-// the packet. On refusal nothing is written.
+// The comment header of a vendor and of comments that are joined in `text`, written to the start of `out`. 23: the lengths
+// do not sum to the text, the packet would be longer than a packet may be, or reading would refuse it. 22: `out` is shorter
+// than the packet. On refusal nothing is written.
 pub fn write_tags(vendor: &[u8], text: &[u8], lengths: &[u64], out: &mut [u8]) -> TagsWritten
-    ensures { λ r. ⌜ Wrote (now (vendor .entry)) (now (text .entry)) (now (lengths .entry)) (now (out .entry)) r (now (out .exit)) ⌝ }
+    ensures { λ r. ⌜ Wrote (now (vendor .entry)) (now (text .entry)) (now (lengths .entry))
+        (now (out .entry)) r (now (out .exit)) ⌝ }
 {
     if !right_fields(vendor, text, lengths) {
         return TagsWritten::Refused(Refusal::UnfitFields);
     }
-    let size = 16 + vendor.len() + text.len() + 4 * lengths.len();
+    let size = packet_size(vendor, text, lengths);
     if out.len() < size {
         return TagsWritten::Refused(Refusal::ShortOutput);
     }

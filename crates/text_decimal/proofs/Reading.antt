@@ -6,7 +6,7 @@ use native.Mathlib.Omega.{arith}
 use lib.ListN.{length, getD, List·getD-append}
 use Rattle.octets.specs.Octets.{Bytes}
 use Rattle.text_decimal.specs.Decimal.{digit, decimal, numberAfter, numberRead}
-use Rattle.text_decimal.specs.Statements.{Digits, DecimalRight, DecimalOnly}
+use Rattle.text_decimal.specs.Statements.{IsDigit, Digits, DecimalRight, DecimalOnly}
 use Rattle.text_decimal.proofs.Decimal.{decimal-one, decimal-more, length-more, by-tens}
 
 -- ---- the digits of a number are its own
@@ -17,8 +17,8 @@ some-digit = by-tens (λ (x : ℕ). 1 ≤ length (decimal x)) (λ x h. rw (decim
 digits-one : (d : ℕ) → d < 10 → Digits (digit d ∷ [])
 digits-one d h = record { each = each }
   where
-    each : (i : ℕ) → i < 1 → (48 ≤ getD (digit d ∷ []) i 0) × (getD (digit d ∷ []) i 0 ≤ 57)
-    each zero l = (omega arith, omega arith)
+    each : (i : ℕ) → i < 1 → IsDigit (getD (digit d ∷ []) i 0)
+    each zero l = omega arith
     each (suc i) l = absurd (omega arith)
 
 digits-tail : (a : ℕ) (s : Bytes) → Digits (a ∷ s) → Digits s
@@ -28,7 +28,7 @@ digits-append : (s t : Bytes) → Digits s → Digits t → Digits (s ++ t)
 digits-append [] t o p = p
 digits-append (a ∷ s) t o p = record { each = each (digits-append s t (digits-tail a s o) p) }
   where
-    each : Digits (s ++ t) → (i : ℕ) → i < suc (length (s ++ t)) → (48 ≤ getD (a ∷ (s ++ t)) i 0) × (getD (a ∷ (s ++ t)) i 0 ≤ 57)
+    each : Digits (s ++ t) → (i : ℕ) → i < suc (length (s ++ t)) → IsDigit (getD (a ∷ (s ++ t)) i 0)
     each q zero l = o .each 0 (omega arith)
     each q (suc i) l = q .each i (omega arith)
 
@@ -73,7 +73,7 @@ next-digit v d h k =
     let r : (v * 10 + d) % 10 ≡ d = omega arith in
     decimal-more (v * 10 + d) (omega arith) ∙ rw (q, r)
 
--- what is read behind a number is written behind it
+-- what is read after a number is written after it
 after : (v : ℕ) (t : Bytes) → 1 ≤ v → Digits t → decimal (numberAfter v t) ≡ decimal v ++ t
 unfolding numberAfter
 after v [] h o = sym (append-nil (decimal v))
@@ -94,11 +94,11 @@ decimal-only [] x w = absurd (omega (arith, w .some))
 decimal-only (a ∷ []) x w =
     let low = w .digits .each 0 (omega arith) in
     let v : a - 48 ≡ 0 * 10 + (a - 48) = omega arith in
-    sym (first a (low .0) (low .1)) ∙ ap decimal (v ∙ w .number)
+    sym (first a (low .least) (low .most)) ∙ ap decimal (v ∙ w .number)
 decimal-only (a ∷ b ∷ t) x w =
     let low = w .digits .each 0 (omega arith) in
     let high = w .leading (omega arith) in
     let more = after (a - 48) (b ∷ t) (omega arith) (digits-tail a (b ∷ t) (w .digits)) in
     let v : a - 48 ≡ 0 * 10 + (a - 48) = omega arith in
-    sym (more ∙ ap (λ (s : Bytes). s ++ b ∷ t) (first a (low .0) (low .1)))
+    sym (more ∙ ap (λ (s : Bytes). s ++ b ∷ t) (first a (low .least) (low .most)))
     ∙ ap decimal (ap (λ (n : ℕ). numberAfter n (b ∷ t)) v ∙ w .number)

@@ -1,3 +1,4 @@
 pub mod Decimal
 pub mod Digits
+pub mod Code
 pub mod Statements

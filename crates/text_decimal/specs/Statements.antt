@@ -5,9 +5,14 @@ use lib.ListN.{length, getD}
 use Rattle.octets.specs.Octets.{Bytes}
 use Rattle.text_decimal.specs.Decimal.{decimal, numberRead}
 
--- each byte is a digit, "0" to "9"
+-- "0" to "9"
+pub record IsDigit (b : ℕ) : Type 0 where
+  pub least : 48 ≤ b
+  pub most : b ≤ 57
+
+-- each byte is a digit
 pub record Digits (s : Bytes) : Type 0 where
-  pub each : (i : ℕ) → i < length s → (48 ≤ getD s i 0) × (getD s i 0 ≤ 57)
+  pub each : (i : ℕ) → i < length s → IsDigit (getD s i 0)
 
 -- s is how the number x is written: at least one digit, no leading zero, and read back it is x
 pub record Writes (s : Bytes) (x : ℕ) : Type 0 where

@@ -10,10 +10,11 @@ ghost use Rattle.octets.specs.Numbers.{octets};
 ghost use Rattle.text_put.specs.Writing.{Put, Laid};
 ghost use Rattle.text_decimal.specs.Decimal.{decimal};
 ghost use Rattle.text_decimal.specs.Digits.{lowest};
+ghost use Rattle.text_decimal.specs.Code.{Counted, HasThreeDigits, HasRoom};
 
 // How many digits a number has.
 pub fn digits_of(x: u64) -> usize
-    ensures { λ r. ⌜ (r ≡ length (decimal x)) × (r ≤ 20) ⌝ }
+    ensures { λ r. ⌜ Counted x r ⌝ }
 {
     let mut rest = x;
     let mut n = 1;
@@ -36,9 +37,9 @@ fn four_digits(x: u64) -> u64
     0x30303030 + tens + (pairs - 10 * tens) * 256
 }
 
-// The three digits of a number from 100 to 999 and a byte behind them, as the bytes of one number.
+// The three digits of a number from 100 to 999 and a byte after them, as the bytes of one number.
 fn three_digits(x: u64, b: u8) -> u64
-    requires { ⌜ (100 ≤ x) × (x < 1000) ⌝ }
+    requires { ⌜ HasThreeDigits x ⌝ }
     ensures { λ r. ⌜ octets 4 r ≡ decimal x ++ (b ∷ []) ⌝ }
 {
     let low = x % 100;
@@ -59,7 +60,7 @@ fn put_word(out: &mut [u8], at: usize, w: u64)
 
 // The four digits of a number below 10,000, leading zeros too.
 fn put_four(out: &mut [u8], at: usize, x: u64)
-    requires { ⌜ (x < 10000) × (at + 4 ≤ length (now out)) ⌝ }
+    requires { ⌜ HasRoom x 10000 (now out) at 4 ⌝ }
     ensures { λ _. ⌜ now (out .exit) ≡ copied (now (out .entry)) at (lowest 4 x) ⌝ }
 {
     put_word(out, at, four_digits(x));
@@ -69,7 +70,7 @@ fn put_four(out: &mut [u8], at: usize, x: u64)
 pub fn put_last_four(out: &mut [u8], at: usize, x: u64)
     ensures { λ _. ⌜ now (out .exit) ≡ copied (now (out .entry)) at (lowest 4 x) ⌝ }
 {
-    if text_put::is_short(out.len(), at, 4) {
+    if octets::is_short(out.len(), at, 4) {
         return;
     }
     put_four(out, at, x % 10000);
@@ -77,7 +78,7 @@ pub fn put_last_four(out: &mut [u8], at: usize, x: u64)
 
 // The eight digits of a number below 100,000,000, leading zeros too.
 fn put_eight(out: &mut [u8], at: usize, x: u64)
-    requires { ⌜ (x < 100000000) × (at + 8 ≤ length (now out)) ⌝ }
+    requires { ⌜ HasRoom x 100000000 (now out) at 8 ⌝ }
     ensures { λ _. ⌜ now (out .exit) ≡ copied (now (out .entry)) at (lowest 4 (x / 10000) ++ lowest 4 (x % 10000)) ⌝ }
 {
     put_four(out, at, x / 10000);
@@ -86,7 +87,7 @@ fn put_eight(out: &mut [u8], at: usize, x: u64)
 
 // The digits of a number below 10,000.
 fn put_short(out: &mut [u8], at: usize, x: u64) -> usize
-    requires { ⌜ (x < 10000) × (at + length (decimal x) ≤ length (now out)) ⌝ }
+    requires { ⌜ HasRoom x 10000 (now out) at (length (decimal x)) ⌝ }
     ensures { λ r. ⌜ Laid (now (out .entry)) at (decimal x) r (now (out .exit)) ⌝ }
 {
     if x < 10 {
@@ -110,7 +111,7 @@ fn put_short(out: &mut [u8], at: usize, x: u64) -> usize
 
 // The digits of a number below 100,000,000.
 fn put_middle(out: &mut [u8], at: usize, x: u64) -> usize
-    requires { ⌜ (x < 100000000) × (at + length (decimal x) ≤ length (now out)) ⌝ }
+    requires { ⌜ HasRoom x 100000000 (now out) at (length (decimal x)) ⌝ }
     ensures { λ r. ⌜ Laid (now (out .entry)) at (decimal x) r (now (out .exit)) ⌝ }
 {
     if x < 10000 {
@@ -123,7 +124,7 @@ fn put_middle(out: &mut [u8], at: usize, x: u64) -> usize
 
 // The digits of a number below 1,000,000,000,000: what stands before the last eight digits of any.
 fn put_upper(out: &mut [u8], at: usize, x: u64) -> usize
-    requires { ⌜ (x < 1000000000000) × (at + length (decimal x) ≤ length (now out)) ⌝ }
+    requires { ⌜ HasRoom x 1000000000000 (now out) at (length (decimal x)) ⌝ }
     ensures { λ r. ⌜ Laid (now (out .entry)) at (decimal x) r (now (out .exit)) ⌝ }
 {
     if x < 100000000 {
@@ -147,16 +148,16 @@ fn lay_decimal(out: &mut [u8], at: usize, x: u64) -> usize
     next + 8
 }
 
-// Whether the digits of a number and `more` bytes behind them pass the end of a buffer. No number has more than 20 digits,
+// Whether the digits of a number and `more` bytes after them pass the end of a buffer. No number has more than 20 digits,
 // so they are counted only where fewer bytes are left.
 fn lacks_digits(len: usize, at: usize, x: u64, more: usize) -> bool
     requires { ⌜ more ≤ 1 ⌝ }
     ensures { λ r. ⌜ r ≡ ltb len (at + (length (decimal x) + more)) ⌝ }
 {
-    if !text_put::is_short(len, at, 20 + more) {
+    if !octets::is_short(len, at, 20 + more) {
         return false;
     }
-    text_put::is_short(len, at, digits_of(x) + more)
+    octets::is_short(len, at, digits_of(x) + more)
 }
 
 // The digits of a number.
@@ -169,7 +170,7 @@ pub fn put_decimal(out: &mut [u8], at: usize, x: u64) -> usize
     lay_decimal(out, at, x)
 }
 
-// The digits of a number, and a byte behind them. Most lengths of packets have three digits: they are one store.
+// The digits of a number, and a byte after them. Most lengths of packets have three digits: they are one store.
 pub fn put_ended(out: &mut [u8], at: usize, x: u64, b: u8) -> usize
     ensures { λ r. ⌜ Put (now (out .entry)) at (decimal x ++ (b ∷ [])) r (now (out .exit)) ⌝ }
 {

@@ -15,11 +15,11 @@ use Rattle.utf8.specs.Characters.{characterLength, numberOf, rightCharacter, ch
 use Rattle.utf8.proofs.Lead.{ascii, ascii-length, ascii-character, tail-length}
 use Rattle.text_escape.specs.Hidden.{isHidden}
 use Rattle.text_escape.specs.Escape.{backslash, hexDigit, escapeOf, shownLength, escapedFrom, escaped}
-use Rattle.text_escape.specs.Statements.{isHarmless, allHarmless, NothingDrives}
+use Rattle.text_escape.specs.Statements.{isHarmless, allHarmless, Printable, NothingDrives}
 use Rattle.text_escape.proofs.Escaping.{escape-backslash, escape-other}
 use Rattle.text_escape.proofs.Images.{Shown, at-end, past, as-it-stands, in-escape, by-images, number-there, right-there}
 
--- a text is UTF-8 behind k bytes, and harmless
+-- a text is UTF-8 after k bytes, and harmless
 pub record Fine (k : ℕ) (t : Bytes) : Type 0 where
   pub text : utf8From k t ≡ true
   pub characters : allHarmless t ≡ true
@@ -137,14 +137,14 @@ module _ (b : ℕ) (t : Bytes) (h : isHarmless (characterOf b t) ≡ true) where
       let no : _≡_ {A = ℕ} 0 1 = cc in
       omega arith
 
-  no-control : (0x20 ≤ b) × (b ≡ 0x7F → ⊥)
-  no-control = (by (ltb b 0x20) refl, no-del)
+  no-control : Printable b
+  no-control = record { least = by (ltb b 0x20) refl; notDelete = no-del }
     where
       by : (q : Bool) → ltb b 0x20 ≡ q → 0x20 ≤ b
       by true q = absurd (no-c0 (ltb-true b 0x20 q))
       by false q = ltb-false b 0x20 q
 
-no-controls : (t : Bytes) → allHarmless t ≡ true → (i : ℕ) → i < length t → (0x20 ≤ getD t i 0) × (getD t i 0 ≡ 0x7F → ⊥)
+no-controls : (t : Bytes) → allHarmless t ≡ true → (i : ℕ) → i < length t → Printable (getD t i 0)
 unfolding allHarmless
 no-controls [] h i l = absurd (omega arith)
 no-controls (b ∷ t) h zero l = no-control b t (both (isHarmless (characterOf b t)) (allHarmless t) h .0)

@@ -34,7 +34,7 @@ shown-or-not b s = by (rightCharacter b s) (isHidden (numberOf b s)) refl refl
     by true true e f = inl (rw (e, f))
     by true false e f = inr (record { right = e; seen = f; size = rw (e, f) })
 
--- ---- the text behind each kind of byte
+-- ---- the text after each kind of byte
 
 pub at-end : (k : ℕ) → escapedFrom k [] ≡ []
 unfolding escapedFrom

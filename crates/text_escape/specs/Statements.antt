@@ -25,10 +25,15 @@ unfoldable pub allHarmless : Bytes → Bool
 allHarmless [] = true
 allHarmless (b ∷ t) = isHarmless (characterOf b t) && allHarmless t
 
+-- not the byte of a control
+pub record Printable (b : ℕ) : Type 0 where
+  pub least : 0x20 ≤ b
+  pub notDelete : b ≡ 0x7F → ⊥
+
 pub record Harmless (t : Bytes) : Type 0 where
   pub text : utf8 t ≡ true
   pub characters : allHarmless t ≡ true
-  pub bytes : (i : ℕ) → i < length t → (0x20 ≤ getD t i 0) × (getD t i 0 ≡ 0x7F → ⊥)
+  pub bytes : (i : ℕ) → i < length t → Printable (getD t i 0)
 
 -- nothing in an escaped text can drive a terminal: it is UTF-8, and no character in it is hidden, and no byte a control
 abbrev pub NothingDrives : Type 0

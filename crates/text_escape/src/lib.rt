@@ -142,7 +142,7 @@ fn lay_escaped(out: &mut [u8], at: usize, s: &[u8]) -> usize
     place
 }
 
-// Puts a text, escaped, into a lent buffer, or nothing where it does not fit, and answers the place behind it.
+// Puts a text, escaped, into a lent buffer, or nothing where it does not fit, and answers the place after it.
 pub fn put_escaped(out: &mut [u8], at: usize, s: &[u8]) -> usize
     ensures { λ r. ⌜ Put (now (out .entry)) at (escaped (now (s .entry))) r (now (out .exit)) ⌝ }
 {

@@ -10,7 +10,7 @@ use Rattle.text_decimal.specs.Digits.{lowest}
 use Rattle.text_decimal.proofs.Reading.{number-append, decimal-right}
 use Rattle.text_gain.specs.Statements.{DecibelsExact}
 
--- the lowest n digits behind a number v
+-- the lowest n digits after a number v
 number-lowest : (n v x : ℕ) → x < 10 ^ n → numberAfter v (lowest n x) ≡ v * 10 ^ n + x
 unfolding numberAfter lowest
 number-lowest zero v x h = omega arith

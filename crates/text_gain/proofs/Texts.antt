@@ -1,4 +1,4 @@
--- Signs and digits laid one behind the other. Assumes nothing.
+-- Signs and digits laid one after the other. Assumes nothing.
 use mathlib.Core.Path.{_≡_, refl}
 use mathlib.Core.List.{[], _∷_, _++_, append-assoc}
 use Prim.Native.Nat.{ℕ, _+_, _-_, _*_, _/_, _%_, _^_, _≤_, _<_}
@@ -108,7 +108,7 @@ module _ (g : ℤ) (small : mag g < 2 ^ 15) where
   unfolding decibelsEnd
   length-end = let most = length-decibels in simp length-append (omega arith)
 
-  -- a gain's decibels behind a tab, and a line feed behind them
+  -- a gain's decibels after a tab, and a line feed after them
   pub laid-end : {d v w x : Bytes} {a b r : ℕ} → 35 ≤ length d → Put d 0 tab a v → Laid v a (decibels g) b w → Put w b lineFeed r x
       → Laid d 0 (decibelsEnd g) r x
   unfolding decibelsEnd

@@ -1,11 +1,17 @@
 -- A signed number in decimal, and a gain in decibels. Assumes nothing.
-use Prim.Native.Nat.{_*_, _/_, _%_}
+use Prim.Native.Nat.{ℕ, _*_, _/_, _%_, _≤_}
+use mathlib.Core.Path.{_≡_}
 use mathlib.Core.List.{[], _∷_, _++_}
 use lib.IntN.{ℤ, pos, negsuc, natAbs}
 use Rattle.octets.specs.Octets.{Bytes}
 use Rattle.text_put.specs.Marks.{tab, lineFeed}
 use Rattle.text_decimal.specs.Decimal.{decimal}
 use Rattle.text_decimal.specs.Digits.{lowest}
+
+-- r is the size of the number g, which has 16 bits
+pub record Sized (g : ℤ) (r : ℕ) : Type 0 where
+  pub same : r ≡ natAbs g
+  pub most : r ≤ 32768
 
 -- "-" where the number is below zero
 abbrev pub signOf : ℤ → Bytes

@@ -1,15 +1,14 @@
 // Signed numbers and gains as text, each put into a lent buffer whole, or nothing where it does not fit. Each public function
-// answers the place behind what it put.
+// answers the place after what it put.
 ghost use mathlib.Core.Path.{_≡_};
 ghost use Prim.Native.Nat.{_+_, _≤_, _<_};
-ghost use lib.IntN.{natAbs};
 ghost use lib.ListN.{length};
 ghost use Rattle.text_put.specs.Writing.{Put, Laid};
 ghost use Rattle.text_decimal.specs.Digits.{lowest};
-ghost use Rattle.text_gain.specs.Numbers.{signOf, signedDecimal, decibels, decibelsEnd};
+ghost use Rattle.text_gain.specs.Numbers.{Sized, signOf, signedDecimal, decibels, decibelsEnd};
 
 fn size_of(g: i16) -> u64
-    ensures { λ r. ⌜ (r ≡ natAbs g) × (r ≤ 32768) ⌝ }
+    ensures { λ r. ⌜ Sized g r ⌝ }
 {
     let bits = number_signed::unsigned16(g) as u64;
     if bits < 32768 { bits } else { 65536 - bits }

@@ -1,4 +1,4 @@
--- Bytes laid one behind the other into a buffer. Assumes nothing.
+-- Bytes laid one after the other into a buffer. Assumes nothing.
 use mathlib.Core.Path.{_≡_, sym, ap, _∙_}
 use mathlib.Core.Bool.{true, false}
 use mathlib.Core.List.{[], _∷_, _++_}
@@ -11,7 +11,7 @@ use lib.ListN.{length, set, length-append}
 use lib.Seq.{sets, sets-eq, take-length}
 use Rattle.octets.specs.Octets.{Bytes, copied}
 use Rattle.octets.proofs.Copying.{copied-fits, copied-short, copied-append}
-use Rattle.text_put.specs.Writing.{placeBehind, Put, Laid}
+use Rattle.text_put.specs.Writing.{placeAfter, Put, Laid}
 
 -- a run of stores is a copy
 pub stores : (s d : Bytes) (at : ℕ) → at + length s ≤ length d → sets d at s ≡ copied d at s
@@ -31,7 +31,7 @@ module _ (d : Bytes) (at : ℕ) where
       → set (set (set (set d at a) (at + 1) b) (at + 2) c) (at + 3) e ≡ copied d at (a ∷ b ∷ c ∷ e ∷ [])
   four-stores a b c e h = rw (add-one at, add-two at, add-three at) (stores (a ∷ b ∷ c ∷ e ∷ []) d at h)
 
--- one part behind another
+-- one part after another
 pub laid-next : {d e f : Bytes} {at a b : ℕ} {s t : Bytes} → Laid d at s a e → Laid e a t b f → a + length t ≤ length d → Laid d at (s ++ t) b f
 laid-next {d} {e} {f} {at} {a} {b} {s} {t} x y h = record {
   place = omega (arith, x .place, y .place, length-append s t);
@@ -47,13 +47,13 @@ laid-as {d} {e} {at} {s} {t} n same size h = record {
 
 -- a line that fits, and one that does not
 pub put-all : {d e : Bytes} {at r : ℕ} {s : Bytes} → ltb (length d) (at + length s) ≡ false → Laid d at s r e → Put d at s r e
-unfolding placeBehind
+unfolding placeAfter
 put-all {d} {e} {at} {r} {s} h x =
     let fits = le-leb (at + length s) (length d) (ltb-false (length d) (at + length s) h) in
     record { place = rw fits (x .place); output = x .output }
 
 pub put-none : {d : Bytes} {at : ℕ} {s : Bytes} → ltb (length d) (at + length s) ≡ true → Put d at s at d
-unfolding placeBehind
+unfolding placeAfter
 put-none {d} {at} {s} h =
     let short = ltb-true (length d) (at + length s) h in
     record { place = rw (lt-leb (at + length s) (length d) short); output = sym (copied-short d at s short) }

@@ -9,7 +9,7 @@ use lib.ListN.{length, take}
 use lib.Seq.{take-length, take-paste}
 use Rattle.octets.specs.Octets.{Bytes}
 use Rattle.octets.proofs.Copying.{copied-fits, length-copied}
-use Rattle.text_put.specs.Writing.{placeBehind, Put, Laid}
+use Rattle.text_put.specs.Writing.{placeAfter, Put, Laid}
 use Rattle.text_put.proofs.Laying.{put-all, put-none, laid-next}
 
 pub put-laid : {d e : Bytes} {at r : ℕ} {s : Bytes} → at + length s ≤ length d → Laid d at s r e → Put d at s r e
@@ -20,7 +20,7 @@ put-nothing {d} {at} {s} short = put-none (lt-ltb (length d) (at + length s) sho
 
 -- what a call put, where it fits
 pub laid-put : {d e : Bytes} {at r : ℕ} {s : Bytes} → at + length s ≤ length d → Put d at s r e → Laid d at s r e
-unfolding placeBehind
+unfolding placeAfter
 laid-put {d} {e} {at} {r} {s} room x =
     record { place = x .place ∙ rw (le-leb (at + length s) (length d) room); output = x .output }
 
@@ -42,7 +42,7 @@ put-made x room same y = rw (same ∙ front x room) at y
 pub put-known : {d e s t : Bytes} {at r : ℕ} → s ≡ t → Put d at s r e → Put d at t r e
 put-known same x = rw same at x
 
--- a part that a call put behind a part that is laid
+-- a part that a call put after a part that is laid
 pub laid-then : {d e f s t : Bytes} {at a b : ℕ} → Laid d at s a e → a + length t ≤ length d → Put e a t b f → Laid d at (s ++ t) b f
 laid-then x room y = laid-next x (laid-put (omega (arith, length-laid x)) y) room
 

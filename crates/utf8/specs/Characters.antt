@@ -1,6 +1,7 @@
 -- UTF-8 by RFC 3629, 3 (document 01, "Comment packet"): the length of a character is read from its lead byte's leading ones;
 -- shortest forms, no surrogates, none above 10FFFF. Assumes nothing.
-use Prim.Native.Nat.{ℕ, zero, suc, _+_, _-_, _*_, _%_, _^_}
+use Prim.Native.Nat.{ℕ, zero, suc, _+_, _-_, _*_, _%_, _^_, _≤_}
+use mathlib.Core.Path.{_≡_}
 use mathlib.Core.Bool.{Bool, true, false, not, _&&_}
 use mathlib.Core.List.{[], _∷_}
 use lib.Count.{leadingZeros}
@@ -21,7 +22,16 @@ lengthBy ones = pick (eqb ones 0) 1 (pick (eqb ones 2) 2 (pick (eqb ones 3) 3 (p
 unfoldable pub characterLength : ℕ → ℕ
 characterLength b = lengthBy (leadingOnes b)
 
--- the bits of the character's number in its lead byte: those behind the leading ones and a zero
+-- that length as the code tells it, and as it takes it where a character begins
+pub record LengthTold (lead r : ℕ) : Type 0 where
+  pub length : r ≡ characterLength lead
+  pub most : r ≤ 4
+
+pub record LengthTaken (lead n : ℕ) : Type 0 where
+  pub length : n ≡ characterLength lead
+  pub some : 1 ≤ n
+
+-- the bits of the character's number in its lead byte: those after the leading ones and a zero
 unfoldable pub leadBits : ℕ → ℕ
 leadBits b = b % 2 ^ (7 - leadingOnes b)
 
@@ -71,7 +81,7 @@ characterOf b s = pick (rightCharacter b s) (record { size = characterLength b; 
 unfoldable pub characterAt : Bytes → ℕ → Character
 characterAt s at = pick (ltb at (length s)) (characterOf (getD s at 0) (drop (at + 1) s)) noCharacter
 
--- right characters follow each other to the end, behind k bytes of one that was judged with its lead byte
+-- right characters follow each other to the end, after k bytes of one that was judged with its lead byte
 unfoldable pub utf8From : ℕ → Bytes → Bool
 utf8From k [] = true
 utf8From (suc k) (b ∷ s) = utf8From k s

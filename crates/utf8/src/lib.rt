@@ -2,7 +2,8 @@
 ghost use mathlib.Core.Path.{_≡_};
 ghost use Prim.Native.Nat.{_≤_, _<_};
 ghost use lib.ListN.{length, drop};
-ghost use Rattle.utf8.specs.Characters.{characterLength, leadBits, tailsFollow, numberWith, leastOf, rightNumber, lengthAt, noCharacter, characterAt, utf8};
+ghost use Rattle.utf8.specs.Characters.{LengthTold, LengthTaken, leadBits, tailsFollow, numberWith, leastOf};
+ghost use Rattle.utf8.specs.Characters.{rightNumber, lengthAt, noCharacter, characterAt, utf8};
 
 // A right character: how many bytes it has, and its number. Where none stands both are 0.
 pub struct Character {
@@ -12,7 +13,7 @@ pub struct Character {
 
 // How many bytes the character has that begins with this byte; 0 where none begins so.
 fn character_length(lead: u8) -> usize
-    ensures { λ r. ⌜ (r ≡ characterLength lead) × (r ≤ 4) ⌝ }
+    ensures { λ r. ⌜ LengthTold lead r ⌝ }
 {
     let ones = u8::leading_zeros(!lead);
     match ones {
@@ -26,7 +27,7 @@ fn character_length(lead: u8) -> usize
 
 // The bits of the character's number in its lead byte, which says that the character has n bytes.
 fn lead_bits(lead: u8, n: usize) -> u8
-    requires { ⌜ (n ≡ characterLength lead) × (1 ≤ n) ⌝ }
+    requires { ⌜ LengthTaken lead n ⌝ }
     ensures { λ r. ⌜ r ≡ leadBits lead ⌝ }
 {
     match n {

@@ -1,10 +1,8 @@
 -- `embulgri::embulgri_open` meets its contract. Assumes nothing.
-use mathlib.Core.Path.{sym, ap, _∙_}
 use borrow.Author.Needs.{needs}
 use denote.Ref.{now}
 use Rattle.octets.proofs.Tests.{failed, held}
-use Rattle.reader.specs.Numbers.{openedNumber}
-use Rattle.embulgri.proofs.Feeding.{open-unfit, open-fit}
+use Rattle.embulgri.proofs.Feeding.{open-unfit, opened, unopened}
 use Rattle.embulgri.proofs.embulgri_open.Statement.{statement}
 use Rattle.embulgri.proofs.embulgri_open.Tie as tie
 
@@ -20,8 +18,8 @@ returns-2 c =
     let made = call .before .before in
     let first = made .before in
     let a = first .before .before .args in
-    open-fit (now (a .fields)) (now (a .mapping)) (now (a .state)) (made .head-of .ensures) (held (first .before .numbers-fit .ensures) (first .if1 .left))
-    (call .open-state .ensures) (sym (ap openedNumber (c .enum-told .given .1)))
+    opened (now (a .fields)) (now (a .mapping)) (now (a .state)) (made .head-of .ensures) (held (first .before .numbers-fit .ensures) (first .if1 .left))
+    (call .open-state .ensures) (c .enum-told .given .1)
 
 returns-3 : tie.Need-returns-3
 returns-3 c =
@@ -30,8 +28,8 @@ returns-3 c =
     let made = call .before .before in
     let first = made .before in
     let a = first .before .before .args in
-    open-fit (now (a .fields)) (now (a .mapping)) (now (a .state)) (made .head-of .ensures) (held (first .before .numbers-fit .ensures) (first .if1 .left))
-    (call .open-state .ensures) (c .number2 .ensures ∙ sym (ap openedNumber (arm .why .given .1)))
+    unopened (now (a .fields)) (now (a .mapping)) (now (a .state)) (made .head-of .ensures) (held (first .before .numbers-fit .ensures) (first .if1 .left))
+    (call .open-state .ensures) (arm .why .given .0 .0) (arm .why .given .1) (c .number2 .ensures)
 
 pub embulgri-open-spec : {M : Type 1} → statement M
 embulgri-open-spec =

@@ -3,7 +3,7 @@ use mathlib.Core.Path.{_≡_, sym, _∙_}
 use borrow.Author.Needs.{needs}
 use denote.Ref.{now}
 use Rattle.stream.specs.Readings.{readings}
-use Rattle.feed_audio.proofs.Checking.{too-long, wrong-granule, past-eleven, sounding, silence, silent-fits}
+use Rattle.feed_audio.proofs.Checking.{too-long, wrong-granule, past-eleven, any-completes, none-completes, piece-fits}
 use Rattle.feed_audio.proofs.feed_page.Statement.{statement}
 use Rattle.feed_lacing.specs.Scan.{scanBy}
 use Rattle.feed_lacing.specs.declared.Scan.the-variants.{Rest}
@@ -21,17 +21,17 @@ returns c crc =
     let st = got .before .before .before .before .before .before .before .before .before .before in
     let a = st .args in
     let fp = got .before .before .before .first-piece .ensures in
-    wrong-granule (readings crc) (a .core) (a .tally) (a .h) (now (a .lacing)) (now (a .body)) (now (a .carry)) (now (a .ends)) (now (a .sizes)) (now (a .kept))
+    wrong-granule (readings crc) (a .core) (a .tally) (a .h) (now (a .lacing)) (now (a .body)) (now (a .carry)) (now (a .ends)) (now (a .lengths)) (now (a .kept))
     (st .pre .audio) _ (scan got) (rw fp at (sym (c .before .wrong-granule .ensures) ∙ c .if1 .taken))
 
-feed-sound-requires : tie.Need-feed-sound-requires
-feed-sound-requires c κs =
+feed-completing-requires : tie.Need-feed-completing-requires
+feed-completing-requires c κs =
     let then = c .before .before .before .before in
     let got = then .before .before .before .before in
     let st = got .before .before .before .before .before .before .before .before .before .before in
     let a = st .args in
     let fp = got .before .before .before .first-piece .ensures in
-    rw fp (sounding (a .core) (a .h) (now (a .lacing)) (now (a .body)) (now (a .carry)) (now (a .ends)) (now (a .sizes)) (now (a .kept)) (st .pre) _ (scan got)
+    rw fp (any-completes (a .core) (a .h) (now (a .lacing)) (now (a .body)) (now (a .carry)) (now (a .ends)) (now (a .lengths)) (now (a .kept)) (st .pre) _ (scan got)
     (rw fp at (then .if2 .taken)) (rw fp at (sym (then .before .before .wrong-granule .ensures) ∙ then .before .if1 .left)))
 
 returns-2 : tie.Need-returns-2
@@ -42,16 +42,16 @@ returns-2 c crc =
     let st = got .before .before .before .before .before .before .before .before .before .before in
     let a = st .args in
     let fp = got .before .before .before .first-piece .ensures in
-    past-eleven (readings crc) (a .core) (a .tally) (a .h) (now (a .lacing)) (now (a .body)) (now (a .carry)) (now (a .ends)) (now (a .sizes)) (now (a .kept))
-    (st .pre .audio) _ (scan got) (rw fp at (sym (then .before .before .wrong-granule .ensures) ∙ then .before .if1 .left)) (fed .feed-sound .ensures crc)
+    past-eleven (readings crc) (a .core) (a .tally) (a .h) (now (a .lacing)) (now (a .body)) (now (a .carry)) (now (a .ends)) (now (a .lengths)) (now (a .kept))
+    (st .pre .audio) _ (scan got) (rw fp at (sym (then .before .before .wrong-granule .ensures) ∙ then .before .if1 .left)) (fed .feed-completing .ensures crc)
 
-feed-silent-requires : tie.Need-feed-silent-requires
-feed-silent-requires c κs =
+feed-piece-requires : tie.Need-feed-piece-requires
+feed-piece-requires c κs =
     let got = c .before .before .before .before .before in
     let st = got .before .before .before .before .before .before .before .before .before .before in
     let a = st .args in
     let fp = got .before .before .before .first-piece .ensures in
-    rw fp (silent-fits (a .core) (a .h) (now (a .lacing)) (now (a .body)) (now (a .carry)) (now (a .ends)) (now (a .sizes)) (now (a .kept)) (st .pre) _ (scan got)
+    rw fp (piece-fits (a .core) (a .h) (now (a .lacing)) (now (a .body)) (now (a .carry)) (now (a .ends)) (now (a .lengths)) (now (a .kept)) (st .pre) _ (scan got)
     (rw fp at (c .before .if2 .left)))
 
 returns-3 : tie.Need-returns-3
@@ -59,7 +59,7 @@ returns-3 c crc =
     let st = c .before .before .before .before .before .before .before .before .before .before in
     let a = st .args in
     let fp = c .before .before .before .first-piece .ensures in
-    too-long (readings crc) (a .core) (a .tally) (a .h) (now (a .lacing)) (now (a .body)) (now (a .carry)) (now (a .ends)) (now (a .sizes)) (now (a .kept))
+    too-long (readings crc) (a .core) (a .tally) (a .h) (now (a .lacing)) (now (a .body)) (now (a .carry)) (now (a .ends)) (now (a .lengths)) (now (a .kept))
     (st .pre .audio) (sym (c .enum-told .given .1) ∙ c .before .before .scan-page .ensures)
 
 returns-4 : tie.Need-returns-4
@@ -70,16 +70,16 @@ returns-4 c crc =
     let st = got .before .before .before .before .before .before .before .before .before .before in
     let a = st .args in
     let fp = got .before .before .before .first-piece .ensures in
-    past-eleven (readings crc) (a .core) (a .tally) (a .h) (now (a .lacing)) (now (a .body)) (now (a .carry)) (now (a .ends)) (now (a .sizes)) (now (a .kept))
+    past-eleven (readings crc) (a .core) (a .tally) (a .h) (now (a .lacing)) (now (a .body)) (now (a .carry)) (now (a .ends)) (now (a .lengths)) (now (a .kept))
     (st .pre .audio) _ (scan got) (rw fp at (sym (otherwise .before .before .wrong-granule .ensures) ∙ otherwise .before .if1 .left))
-    (fed .feed-silent .ensures crc (now (a .lacing)) (now (a .ends)) (now (a .sizes)) (now (a .kept))
-    (rw fp (silence (a .core) (a .h) (now (a .lacing)) (now (a .body)) (now (a .carry)) (now (a .ends)) (now (a .sizes)) (now (a .kept)) (st .pre) _ (scan got)
+    (fed .feed-piece .ensures crc (now (a .lacing)) (now (a .ends)) (now (a .lengths)) (now (a .kept))
+    (rw fp (none-completes (a .core) (a .h) (now (a .lacing)) (now (a .body)) (now (a .carry)) (now (a .ends)) (now (a .lengths)) (now (a .kept)) (st .pre) _ (scan got)
     (rw fp at (otherwise .if2 .left)))))
 
 pub feed-page-spec : {M : Type 1} → statement M
 feed-page-spec =
     tie.close
     (tie.spec
-    (λ c κs. search needs) (λ c κs. search needs) (λ c. search needs) (λ c. search needs) (λ c κs. search needs) returns feed-sound-requires
-    (λ c. search needs) (λ c. search needs) (λ c. search needs) (λ c. search needs) returns-2 feed-silent-requires returns-3
+    (λ c κs. search needs) (λ c κs. search needs) (λ c. search needs) (λ c. search needs) (λ c κs. search needs) returns feed-completing-requires
+    (λ c. search needs) (λ c. search needs) (λ c. search needs) (λ c. search needs) returns-2 feed-piece-requires returns-3
     (λ c. search needs) returns-4)

@@ -27,15 +27,15 @@ returns-3 c =
 
 returns-4 : tie.Need-returns-4
 unfolding expecting
-returns-4 c = λ carry lacing body. let q : c .before .before .before .args .core .phase ≡ Comment = cc in rw (c .anew .ensures, q)
+returns-4 c = λ carry lacing body. let q : c .before .before .before .args .core .phase ≡ Comment = cc in rw (c .remade .ensures, q)
 
 returns-5 : tie.Need-returns-5
 unfolding expecting
-returns-5 c = λ carry lacing body. let q : c .before .before .before .args .core .phase ≡ Audio = cc in rw (c .anew2 .ensures, q)
+returns-5 c = λ carry lacing body. let q : c .before .before .before .args .core .phase ≡ Audio = cc in rw (c .remade2 .ensures, q)
 
 returns-6 : tie.Need-returns-6
 unfolding expecting
-returns-6 c = λ carry lacing body. let q : c .before .before .before .args .core .phase ≡ Ended = cc in rw (c .anew3 .ensures, q)
+returns-6 c = λ carry lacing body. let q : c .before .before .before .args .core .phase ≡ Ended = cc in rw (c .remade3 .ensures, q)
 
 pub expected-spec : {M : Type 1} → statement M
 expected-spec =

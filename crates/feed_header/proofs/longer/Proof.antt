@@ -4,7 +4,7 @@ use Prim.Native.Nat.{_+_, _≤_}
 use native.Mathlib.Omega.{arith}
 use borrow.Author.Needs.{needs}
 use Rattle.stream.specs.declared.Pending.the-variants.{Nothing, Held}
-use Rattle.stream.specs.Packets.{packetMax}
+use Rattle.limits.specs.Limits.{packetMax}
 use Rattle.feed_header.proofs.longer.Statement.{statement}
 use Rattle.feed_header.specs.Code.{longer}
 use Rattle.feed_header.proofs.longer.Tie as tie

@@ -23,7 +23,10 @@ returns c =
     let i : ℕ = at .i in
     let v : ℕ = getD l i 0 in
     let here : i < length l = omega arith in
-    (sym (after-ends (drop (i + 1) l) v (c .if1 .taken)) ∙ ap afterFirst (sym (next l i v here refl)) ∙ at .inv .0, omega arith)
+    record {
+      values = sym (after-ends (drop (i + 1) l) v (c .if1 .taken)) ∙ ap afterFirst (sym (next l i v here refl)) ∙ at .inv .0;
+      inside = omega arith;
+    }
 
 loop-again : tie.Need-loop-again Inv-loop μ-loop
 loop-again c =
@@ -39,7 +42,10 @@ unfolding afterFirst
 returns-2 c =
     let at = c .before .loop in
     let l = now (c .before .before .args .lacing) in
-    (rw (drop-of-length-le l (c .loop-test .left)) (rw (drop-of-length-le l (c .loop-test .left)) at (at .inv .0)), at .inv .1)
+    record {
+      values = rw (drop-of-length-le l (c .loop-test .left)) (rw (drop-of-length-le l (c .loop-test .left)) at (at .inv .0));
+      inside = at .inv .1;
+    }
 
 pub after-first-spec : {M : Type 1} → statement M
 after-first-spec =

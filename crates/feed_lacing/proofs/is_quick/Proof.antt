@@ -8,6 +8,7 @@ use borrow.Author.Tests.{leb-true}
 use denote.Ref.{now}
 use lib.ListN.{length}
 use lib.Seq.{take-all}
+use Rattle.limits.specs.Limits.{packetMax}
 use Rattle.octets.specs.Octets.{Bytes, total}
 use Rattle.feed_lacing.proofs.Scanning.{scan-quick}
 use Rattle.feed_lacing.proofs.is_quick.Statement.{statement}
@@ -22,8 +23,8 @@ returns-4 c e =
     let known = c .before .before in
     let l : Bytes = now (known .before .before .before .before .args .lacing) in
     let n : ℕ = length l - 1 in
-    let few = leb-true (c .sum-of .result) 61440 e in
-    let all : c .sum-of .result ≡ total l = c .sum-of .ensures .0 ∙ ap total (take-all 255 l (omega arith)) in
+    let few = leb-true (c .sum-of .result) packetMax e in
+    let all : c .sum-of .result ≡ total l = c .sum-of .ensures .sum ∙ ap total (take-all 255 l (omega arith)) in
     scan-quick l 0 n (omega arith) (omega (arith, known .shared-slice-known2 .given n .fits, c .before .if3 .left)) (omega arith)
 
 pub is-quick-spec : {M : Type 1} → statement M

@@ -22,7 +22,7 @@ returns-2 c =
     let at = c .before .before .before .before .before .before .loop in
     let l = now (c .before .before .before .before .before .before .before .before .args .lacing) in
     let v : ℕ = c .before .before .wide .result in
-    rw (at .inv .0, next l (at .i) v (omega arith) (c .before .before .wide .ensures .0)) (ends-long (drop (at .i + 1) l) (at .bytes) v (c .before .if2 .taken) (c .if3 .taken))
+    rw (at .inv .0, next l (at .i) v (omega arith) (c .before .before .wide .ensures .same)) (ends-long (drop (at .i + 1) l) (at .bytes) v (c .before .if2 .taken) (c .if3 .taken))
 
 loop-again : tie.Need-loop-again Inv-loop μ-loop
 loop-again c =
@@ -33,10 +33,10 @@ loop-again c =
     ⊎-elim
     (λ w.
     let z : c .if2 .bytes ≡ 0 = cc in
-    (rw (z, at .inv .0, next l (at .i) v in-l (c .before .wide .ensures .0)) (ends-short (drop (at .i + 1) l) (at .bytes) v (w .0 .taken) (w .1 .left)), omega arith))
+    (rw (z, at .inv .0, next l (at .i) v in-l (c .before .wide .ensures .same)) (ends-short (drop (at .i + 1) l) (at .bytes) v (w .0 .taken) (w .1 .left)), omega arith))
     (λ w.
     let z : c .if2 .bytes ≡ at .bytes + v = cc in
-    (rw (z, at .inv .0, next l (at .i) v in-l (c .before .wide .ensures .0)) (scan-goes-on (drop (at .i + 1) l) (at .bytes) v (w .0 .left)), omega arith))
+    (rw (z, at .inv .0, next l (at .i) v in-l (c .before .wide .ensures .same)) (scan-goes-on (drop (at .i + 1) l) (at .bytes) v (w .0 .left)), omega arith))
     (c .if2 .came)
 
 returns-4 : tie.Need-returns-4 Inv-loop μ-loop

@@ -19,11 +19,11 @@ returns-2 c =
 returns-3 : tie.Need-returns-3
 returns-3 c =
     let q : c .before .before .before .before .before .args .pending ≡ Dropped = cc in
-    rw q (c .scan-from2 .ensures ∙ ap (scanOf 0) (c .before .after-first .ensures .0))
+    rw q (c .scan-from2 .ensures ∙ ap (scanOf 0) (c .before .after-first .ensures .values))
 
 pub scan-page-spec : {M : Type 1} → statement M
 scan-page-spec =
     tie.close
     (tie.spec
     (λ c. search needs) (λ c κs. search needs) (λ c. search needs) (λ c κs. omega arith) (λ c. search needs) (λ c κs. search needs)
-    (λ c κs. c .after-first .ensures .1) returns returns-2 returns-3)
+    (λ c κs. c .after-first .ensures .inside) returns returns-2 returns-3)

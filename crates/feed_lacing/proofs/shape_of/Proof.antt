@@ -4,7 +4,7 @@ use Prim.Native.Nat.{ℕ, _+_, _-_, _<_, _≤_}
 use native.Mathlib.Omega.{arith}
 use denote.Ref.{now}
 use lib.ListN.{length, getD, drop, drop-of-length-le, length-drop}
-use Rattle.feed_lacing.specs.Shape.{shapeFrom, shapeOf}
+use Rattle.stream.specs.Shape.{shapeFrom, shapeOf}
 use Rattle.feed_lacing.proofs.Values.{next}
 use Rattle.feed_lacing.proofs.OnePiece.{shapeAt, goes-on, ends, at-end, no-more, some-more, shape-later, shape-some}
 use Rattle.feed_lacing.proofs.shape_of.Statement.{statement}

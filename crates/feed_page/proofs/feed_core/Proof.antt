@@ -4,17 +4,17 @@ use borrow.Author.Needs.{needs}
 use denote.Ref.{now}
 use Rattle.page_crc.specs.Crc.{pageCrc}
 use Rattle.feed_fields.specs.Checked.{found}
-use Rattle.stream.specs.Feed.{Lent, lentOf}
-use Rattle.feed_page.proofs.Pages.{none-early, some-early}
+use Rattle.stream.specs.Lent.{Lent, lentOf}
+use Rattle.feed_page.proofs.Pages.{none-unread, some-unread}
 use Rattle.feed_page.proofs.feed_core.Statement.{statement}
 use Rattle.feed_page.proofs.feed_core.Tie as tie
 
 -- where the function starts, and what is lent to it
-abbrev start : tie.After-early → tie.Start
+abbrev start : tie.After-check-unread → tie.Start
 start c = c .before .before .before .before .before .before
 
 abbrev lent : tie.Start → Lent
-lent s = lentOf (now (s .args .carry)) (now (s .args .ends)) (now (s .args .sizes)) (now (s .args .kept))
+lent s = lentOf (now (s .args .carry)) (now (s .args .ends)) (now (s .args .lengths)) (now (s .args .kept))
 
 returns : tie.Need-returns
 returns c =
@@ -22,16 +22,16 @@ returns c =
     let call = last .before .before .before .before .before in
     let first = call .before .before .before in
     let a = start first .args in
-    let passed = none-early (a .core .phase) (lent (start first)) (sym (first .early .ensures) ∙ ap found (call .before .enum-told .given .1)) in
-    last .feed-read .ensures pageCrc (call .read-page .ensures) (passed .0) (passed .1)
+    let passed = none-unread (a .core .phase) (lent (start first)) (sym (first .check-unread .ensures) ∙ ap found (call .before .enum-told .given .1)) in
+    last .feed-read .ensures pageCrc (record { reads = call .read-page .ensures; going = passed .0; room = passed .1 })
 
 returns-2 : tie.Need-returns-2
 returns-2 c =
     let arm = c .before in
     let first = arm .before .before in
     let a = start first .args in
-    some-early pageCrc (a .core) (a .tally) (lent (start first)) (now (a .page)) (arm .why .given .0 .0)
-    (sym (first .early .ensures) ∙ ap found (arm .why .given .1))
+    some-unread pageCrc (a .core) (a .tally) (lent (start first)) (now (a .page)) (arm .why .given .0 .0)
+    (sym (first .check-unread .ensures) ∙ ap found (arm .why .given .1))
 
 pub feed-core-spec : {M : Type 1} → statement M
 feed-core-spec =

@@ -8,7 +8,7 @@ use lib.ListN.{length, drop, length-take}
 use Rattle.page_layout.specs.Page.{countOf, lacingOf}
 use Rattle.octets.specs.Octets.{Bytes}
 use Rattle.stream.specs.Readings.{readings}
-use Rattle.stream.specs.Feed.{Lent, lentOf}
+use Rattle.stream.specs.Lent.{Lent, lentOf}
 use Rattle.feed_page.specs.declared.Due.{Due}
 use Rattle.feed_page.specs.Stages.{DueIs}
 use Rattle.feed_page.proofs.Joining.{by-audio, by-header}
@@ -20,7 +20,7 @@ abbrev start : tie.After-page-due → tie.Start
 start c = c .before .before .before .before .before .before
 
 abbrev lent : tie.Start → Lent
-lent s = lentOf (now (s .args .carry)) (now (s .args .ends)) (now (s .args .sizes)) (now (s .args .kept))
+lent s = lentOf (now (s .args .carry)) (now (s .args .ends)) (now (s .args .lengths)) (now (s .args .kept))
 
 -- what 3 to 8 found
 abbrev checked : (Bytes → ℕ) → tie.Start → Due → Type 0
@@ -35,7 +35,7 @@ few c =
     omega (arith, ap length (c .lacing-of .ensures), length-take (countOf page) (drop 27 page), known .shared-slice-known .given 26)
 
 returns : tie.Need-returns
-returns c crc e going room =
+returns c crc u =
     let call = c .before .before .before .before .before .before .before .before .before in
     let then = call .before .before .before .before .before in
     let body = then .before .before in
@@ -43,12 +43,12 @@ returns c crc e going room =
     let arm = lacing .before .before in
     let due = arm .before .before in
     let a = start due .args in
-    rw (c .of-audio .ensures)
-    (by-audio (subst (checked crc (start due)) (arm .due .given .1) (due .page-due .ensures crc (now (a .page)) (a .tally) (lent (start due)) e going room)) room
-    (lacing .lacing-of .ensures) (body .body-of .ensures) (few lacing) (sym (then .before .is-audio .ensures) ∙ then .if1 .taken) (call .feed-audio .ensures crc))
+    by-audio (subst (checked crc (start due)) (arm .due .given .1) (due .page-due .ensures crc (now (a .page)) (a .tally) (lent (start due)) u)) (u .room)
+    (lacing .lacing-of .ensures) (body .body-of .ensures) (few lacing) (call .feed-audio .result) _ (sym (then .before .is-audio .ensures) ∙ then .if1 .taken)
+    (c .of-audio .ensures) (call .feed-audio .ensures crc)
 
 returns-2 : tie.Need-returns-2
-returns-2 c crc e going room =
+returns-2 c crc u =
     let call = c .before .before .before in
     let otherwise = call .before .before in
     let body = otherwise .before .before in
@@ -56,17 +56,16 @@ returns-2 c crc e going room =
     let arm = lacing .before .before in
     let due = arm .before .before in
     let a = start due .args in
-    rw (c .of-header .ensures)
-    (by-header (subst (checked crc (start due)) (arm .due .given .1) (due .page-due .ensures crc (now (a .page)) (a .tally) (lent (start due)) e going room)) room
-    (lacing .lacing-of .ensures) (body .body-of .ensures) (few lacing) (sym (otherwise .before .is-audio .ensures) ∙ otherwise .if1 .left)
-    (call .feed-header .ensures crc (now (a .ends)) (now (a .sizes)) (now (a .kept))))
+    by-header (subst (checked crc (start due)) (arm .due .given .1) (due .page-due .ensures crc (now (a .page)) (a .tally) (lent (start due)) u)) (u .room)
+    (lacing .lacing-of .ensures) (body .body-of .ensures) (few lacing) (call .feed-header .result) _ (sym (otherwise .before .is-audio .ensures) ∙ otherwise .if1 .left)
+    (c .of-header .ensures) (call .feed-header .ensures crc (lent (start due)))
 
 returns-3 : tie.Need-returns-3
-returns-3 c crc e going room =
+returns-3 c crc u =
     let arm = c .before in
     let due = arm .before .before in
     let a = start due .args in
-    subst (checked crc (start due)) (arm .why .given .1) (due .page-due .ensures crc (now (a .page)) (a .tally) (lent (start due)) e going room)
+    subst (checked crc (start due)) (arm .why .given .1) (due .page-due .ensures crc (now (a .page)) (a .tally) (lent (start due)) u)
 
 pub feed-read-spec : {M : Type 1} → statement M
 feed-read-spec =

@@ -1,21 +1,26 @@
 -- `feed_page::of_header` meets its contract. Assumes nothing.
-use mathlib.Core.Path.{_≡_}
+use Prim.Native.Nat.{ℕ}
+use mathlib.Core.Path.{_≡_, sym, ap, _∙_}
+use native.Mathlib.Omega.{arith}
 use borrow.Author.Needs.{needs}
-use Rattle.feed_header.specs.declared.HeaderFed.the-variants.{Accepted, Refused}
+use Rattle.feed_header.specs.declared.HeaderFed.the-variants.{Page, NotHeader}
+use Rattle.feed_header.specs.Header.{toldHeader}
 use Rattle.feed_page.proofs.of_header.Statement.{statement}
 use Rattle.feed_page.proofs.of_header.Tie as tie
 
 returns : tie.Need-returns
-returns c =
+returns c t e =
     let arm = c .before in
-    let q : arm .before .before .args .fed ≡ Accepted (arm .fed .given .0 .0) (arm .fed .given .0 .1 .0) = cc in
-    rw q
+    let q : arm .before .before .args .fed ≡ Page (arm .fed .given .0 .0) = cc in
+    let same = sym (ap toldHeader q) ∙ e in
+    cc
 
 returns-2 : tie.Need-returns-2
-returns-2 c =
-    let arm = c .before in
-    let q : arm .before .before .args .fed ≡ Refused (arm .fed2 .given .0 .0) = cc in
-    rw q
+returns-2 c t e =
+    let q : c .before .before .args .fed ≡ NotHeader = cc in
+    let same = sym (ap toldHeader q) ∙ e in
+    let z : _≡_ {A = ℕ} 0 1 = cc in
+    absurd (omega arith)
 
 pub of-header-spec : {M : Type 1} → statement M
 of-header-spec = tie.close (tie.spec (λ c. search needs) (λ c. search needs) returns returns-2)

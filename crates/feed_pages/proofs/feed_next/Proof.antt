@@ -7,10 +7,11 @@ use native.Mathlib.Omega.{arith}
 use borrow.Author.Needs.{needs}
 use denote.Ref.{now}
 use lib.ListN.{length}
-use Rattle.stream.specs.Feed.{Lent, lentOf}
+use Rattle.stream.specs.Lent.{Lent, lentOf}
 use Rattle.reader.specs.Answers.{toldFed}
 use Rattle.feed_pages.specs.Run.{isFull}
 use Rattle.page_end.specs.End.{endAt, foundEnd}
+use Rattle.page_end.specs.Statements.{Inside}
 use Rattle.page_end.proofs.Ends.{end-inside}
 use Rattle.feed_pages.proofs.Feeding.{turn-full, turn-cut, turn-told, few-packets}
 use Rattle.feed_pages.proofs.feed_next.Statement.{statement}
@@ -18,13 +19,13 @@ use Rattle.feed_pages.proofs.feed_next.Tie as tie
 
 -- what is lent
 abbrev lent : tie.Start → Lent
-lent s = lentOf (now (s .args .carry)) (now (s .args .ends)) (now (s .args .sizes)) (now (s .args .kept))
+lent s = lentOf (now (s .args .carry)) (now (s .args .ends)) (now (s .args .lengths)) (now (s .args .kept))
 
 returns : tie.Need-returns
 unfolding isFull
 returns c =
     let s = c .before .before .before .before .before .before .before .before .before in
-    turn-full _ (now (s .args .buffer)) (s .args .p) (lent s) (sym (c .before .is-full .ensures) ∙ c .if1 .taken)
+    turn-full _ (now (s .args .buffer)) (s .args .p) (lent s) (sym (c .before .are-lists-short .ensures) ∙ c .if1 .taken)
 
 -- the place where the end of the page is known
 module _ (c : tie.After-known-told) where
@@ -36,22 +37,22 @@ module _ (c : tie.After-known-told) where
 
   places : isFull (begun .args .p .packets) (lent begun) ≡ false
   unfolding isFull
-  places = sym (c .before .before .before .before .before .is-full .ensures) ∙ c .before .before .before .before .if1 .left
+  places = sym (c .before .before .before .before .before .are-lists-short .ensures) ∙ c .before .before .before .before .if1 .left
 
   ends-at : endAt (now (begun .args .buffer)) (begun .args .p .bytes) ≡ some end
   ends-at = sym (c .before .before .before .end-at .ensures) ∙ ap foundEnd (c .before .end .given .1)
 
-  inside : (begun .args .p .bytes < end) × (end ≤ length (now (begun .args .buffer)))
+  inside : Inside (begun .args .p .bytes) end (length (now (begun .args .buffer)))
   inside = end-inside (now (begun .args .buffer)) (begun .args .p .bytes) end ends-at
 
 sub-feed-with : tie.Need-sub-feed-with
-sub-feed-with c = omega (arith, inside c .0)
+sub-feed-with c = omega (arith, inside c .after)
 
 part-feed-with-start : tie.Need-part-feed-with-start
-part-feed-with-start c = omega (arith, inside c .0, inside c .1)
+part-feed-with-start c = omega (arith, inside c .after, inside c .within)
 
 part-feed-with-end : tie.Need-part-feed-with-end
-part-feed-with-end c = omega (arith, inside c .0, inside c .1)
+part-feed-with-end c = omega (arith, inside c .after, inside c .within)
 
 add-t50 : tie.Need-add-t50
 add-t50 c =
@@ -75,7 +76,7 @@ unfolding isFull
 returns-2 c =
     let s = c .before .before .before .before .before .before .before .before .before .before .before .before in
     turn-cut _ (now (s .args .buffer)) (s .args .p) (lent s)
-    (sym (c .before .before .before .before .is-full .ensures) ∙ c .before .before .before .if1 .left) (sym (c .before .before .end-at .ensures) ∙ ap foundEnd (c .enum-told .given .1))
+    (sym (c .before .before .before .before .are-lists-short .ensures) ∙ c .before .before .before .if1 .left) (sym (c .before .before .end-at .ensures) ∙ ap foundEnd (c .enum-told .given .1))
 
 same-length : tie.Need-same-length
 same-length c = c .before .before .before .before .before .before .before .before .before .before .before .before .carry .given

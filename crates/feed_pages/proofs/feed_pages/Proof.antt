@@ -8,7 +8,7 @@ use Rattle.page_crc.specs.Crc.{pageCrc}
 use Rattle.page_crc_tables.specs.Table.{entryIn}
 use Rattle.page_crc.specs.Sliced.{pageSliced}
 use Rattle.page_crc.proofs.Page.{page-sliced-right}
-use Rattle.stream.specs.Feed.{lentOf}
+use Rattle.stream.specs.Lent.{lentOf}
 use Rattle.reader.specs.Answers.{knownAs}
 use Rattle.feed_pages.proofs.Checksums.{same-pages}
 use Rattle.feed_pages.proofs.feed_pages.Statement.{statement}
@@ -22,7 +22,7 @@ returns c =
     let a = known .before .args in
     call .run .ensures
     ∙ same-pages (pageSliced (entryIn (made .tables .result))) pageCrc (λ (p : Bytes) (o : Octets p). page-sliced-right (entryIn (made .tables .result)) (made .tables .ensures) p o)
-    (now (a .buffer)) (record { below = λ (i : ℕ). known .shared-slice-known .given i .fits }) (knownAs (a .reader)) (lentOf (now (a .carry)) (now (a .ends)) (now (a .sizes)) (now (a .kept)))
+    (now (a .buffer)) (record { below = λ (i : ℕ). known .shared-slice-known .given i .fits }) (knownAs (a .reader)) (lentOf (now (a .carry)) (now (a .ends)) (now (a .lengths)) (now (a .kept)))
 
 pub feed-pages-spec : {M : Type 1} → statement M
 feed-pages-spec =

@@ -9,34 +9,34 @@ use Rattle.octets.specs.Octets.{Bytes}
 use Rattle.page_crc_tables.specs.Table.{entryIn}
 use Rattle.page_crc.specs.Sliced.{pageSliced}
 use Rattle.stream.specs.Readings.{Readings, readings}
-use Rattle.stream.specs.Feed.{Lent, lentOf}
+use Rattle.stream.specs.Lent.{Lent, lentOf}
 use Rattle.reader.specs.Answers.{knownAs}
 use Rattle.feed_pages.specs.declared.Progress.{Progress}
 use Rattle.feed_pages.specs.declared.Stop.{Stop}
 use Rattle.feed_pages.specs.declared.Turn.{Turn}
 use Rattle.feed_pages.specs.declared.Turn.the-variants.{Goes, Stops}
-use Rattle.feed_pages.specs.Run.{Reached, goes, turn, Ended, runs, feedPages, Fits}
+use Rattle.feed_pages.specs.Run.{Reached, goes, turn, Ended, runs, feedPages, Inside}
 use Rattle.feed_pages.specs.Answers.{reached, toldStop, toldTurn}
 use Rattle.feed_pages.proofs.Turns.{Onward, turn-onward, run-goes, run-stops}
 use Rattle.feed_pages.proofs.run.Statement.{statement}
 use Rattle.feed_pages.proofs.run.Tie as tie
 
 abbrev Inv-loop : tie.InvT-loop
-Inv-loop tables buffer carry₀ ends₀ sizes₀ kept₀ progress₀ carry ends sizes kept progress =
-    (runs (suc (length buffer) - progress .pages) (readings (pageSliced (entryIn tables))) buffer (reached progress) (lentOf carry ends sizes kept)
-    ≡ runs (suc (length buffer)) (readings (pageSliced (entryIn tables))) buffer (reached progress₀) (lentOf carry₀ ends₀ sizes₀ kept₀))
-    × Fits (reached progress) buffer (lentOf carry ends sizes kept)
-    × (length carry ≡ length carry₀) × (length ends ≡ length ends₀) × (length sizes ≡ length sizes₀) × (length kept ≡ length kept₀)
+Inv-loop tables buffer carry₀ ends₀ lengths₀ kept₀ progress₀ carry ends lengths kept progress =
+    (runs (suc (length buffer) - progress .pages) (readings (pageSliced (entryIn tables))) buffer (reached progress) (lentOf carry ends lengths kept)
+    ≡ runs (suc (length buffer)) (readings (pageSliced (entryIn tables))) buffer (reached progress₀) (lentOf carry₀ ends₀ lengths₀ kept₀))
+    × Inside (reached progress) buffer (lentOf carry ends lengths kept)
+    × (length carry ≡ length carry₀) × (length ends ≡ length ends₀) × (length lengths ≡ length lengths₀) × (length kept ≡ length kept₀)
 
 abbrev μ-loop : tie.MeasureT-loop
-μ-loop tables buffer carry₀ ends₀ sizes₀ kept₀ progress₀ carry ends sizes kept progress = length buffer - progress .bytes
+μ-loop tables buffer carry₀ ends₀ lengths₀ kept₀ progress₀ carry ends lengths kept progress = length buffer - progress .bytes
 
 no-page-yet : (n : ℕ) (R : Readings) (b : Bytes) (a : Reached) (m : Lent) → runs (n - 0) R b a m ≡ runs n R b a m
 no-page-yet n R b a m = let all : n - 0 ≡ n = omega arith in rw all
 
 loop-holds : tie.Need-loop-holds Inv-loop μ-loop
 loop-holds c =
-    (no-page-yet _ _ _ _ _, record { inside = omega arith; few = omega arith; ends = omega arith; sizes = omega arith; kept = omega arith }, refl, refl, refl, refl)
+    (no-page-yet _ _ _ _ _, record { bytes = omega arith; few = omega arith; ends = omega arith; lengths = omega arith; kept = omega arith }, refl, refl, refl, refl)
 
 feed-next-requires : tie.Need-feed-next-requires Inv-loop μ-loop
 feed-next-requires c κs = c .before .before .before .before .loop .inv .1
@@ -56,22 +56,22 @@ module _ (c : tie.After-feed-next Inv-loop μ-loop) where
   p = c .before .before .before .before .before .loop .progress
 
   abbrev m : Lent
-  m = (let l = c .before .before .before .before .before .loop in lentOf (l .carry) (l .ends) (l .sizes) (l .kept))
+  m = (let l = c .before .before .before .before .before .loop in lentOf (l .carry) (l .ends) (l .lengths) (l .kept))
 
   abbrev end : Lent
   end = (let l = c .feed-next .last in lentOf (l .1 .1 .1 .0) (l .1 .1 .1 .1 .0) (l .1 .1 .1 .1 .1 .0) (l .1 .1 .1 .1 .1 .1 .0))
 
   abbrev all : Ended
-  all = (let a = known .before .args in feedPages R (knownAs (a .reader)) (lentOf (now (a .carry)) (now (a .ends)) (now (a .sizes)) (now (a .kept))) b)
+  all = (let a = known .before .args in feedPages R (knownAs (a .reader)) (lentOf (now (a .carry)) (now (a .ends)) (now (a .lengths)) (now (a .kept))) b)
 
-  fits : Fits (reached p) b m
+  fits : Inside (reached p) b m
   fits = c .before .before .before .before .before .loop .inv .1
 
   -- the pages that are left, this turn's included
   rest : runs (suc (length b - p .pages)) R b (reached p) m ≡ all
   unfolding feedPages
   rest =
-      let left : suc (length b - p .pages) ≡ suc (length b) - p .pages = omega (arith, fits .few, fits .inside) in
+      let left : suc (length b - p .pages) ≡ suc (length b) - p .pages = omega (arith, fits .few, fits .bytes) in
       ap (λ (k : ℕ). runs k R b (reached p) m) left ∙ c .before .before .before .before .before .loop .inv .0
 
   module _ {next : Progress} (q : c .feed-next .result ≡ Goes next) where
@@ -92,7 +92,7 @@ module _ (c : tie.After-feed-next Inv-loop μ-loop) where
 loop-less : tie.Need-loop-less Inv-loop μ-loop
 loop-less c =
     let on = onward (c .before .before .before .before .before .before .before .before .before .before .before) (c .before .next .given .1) in
-    omega (arith, on .moves, on .fits .inside)
+    omega (arith, on .moves, on .fits .bytes)
 
 loop-again : tie.Need-loop-again Inv-loop μ-loop
 unfolding feedPages
@@ -104,7 +104,7 @@ loop-again c =
       onward call (arm .next .given .1) .fits,
       arm .before .before .before .before .before .before .before .before .before .carry .given ∙ inv .2,
       arm .before .before .before .before .before .before .before .ends .given ∙ inv .3,
-      arm .before .before .before .before .before .sizes .given ∙ inv .4,
+      arm .before .before .before .before .before .lengths .given ∙ inv .4,
       arm .before .before .before .kept .given ∙ inv .5,
     )
 
@@ -115,7 +115,7 @@ same-length-2 : tie.Need-same-length-2 Inv-loop μ-loop
 same-length-2 c = c .before .before .before .before .before .before .before .before .ends .given ∙ c .before .before .before .before .before .before .before .before .before .before .before .before .before .before .before .before .loop .inv .3
 
 same-length-3 : tie.Need-same-length-3 Inv-loop μ-loop
-same-length-3 c = c .before .before .before .before .before .before .sizes .given ∙ c .before .before .before .before .before .before .before .before .before .before .before .before .before .before .before .before .loop .inv .4
+same-length-3 c = c .before .before .before .before .before .before .lengths .given ∙ c .before .before .before .before .before .before .before .before .before .before .before .before .before .before .before .before .loop .inv .4
 
 same-length-4 : tie.Need-same-length-4 Inv-loop μ-loop
 same-length-4 c = c .before .before .before .before .kept .given ∙ c .before .before .before .before .before .before .before .before .before .before .before .before .before .before .before .before .loop .inv .5

@@ -10,13 +10,13 @@ returns c =
     let w = c .before .before .before .before in
     let a = w .before .args in
     rw (c .minus2 .ensures, c .before .least2 .ensures, c .before .before .minus .ensures, w .least .ensures, c .before .before .before .if1 .taken)
-    (sym (closed-forms (a .skip) (a .g) (a .at) (a .length) .cut))
+    (sym (closed-forms (a .skip) (a .g) (a .at) (a .samples) .cut))
 
 returns-2 : tie.Need-returns-2
 returns-2 c =
     let a = c .before .before .before .args in
     rw (c .minus3 .ensures, c .before .before .least .ensures, c .before .if1 .left)
-    (sym (closed-forms (a .skip) (a .g) (a .at) (a .length) .whole))
+    (sym (closed-forms (a .skip) (a .g) (a .at) (a .samples) .whole))
 
 pub kept-spec : {M : Type 1} → statement M
 kept-spec =

@@ -44,7 +44,7 @@ returns-4 c =
     c .all-zero .ensures
     ∙ sym
     (unused-decide (one .before .before .args .h) (one .if1 .left) (mapped two)
-    (held (three .before .right-plain .ensures) (three .if3 .left)) (wide .wide .ensures .0) (long three))
+    (held (three .before .right-plain .ensures) (three .if3 .left)) (wide .wide .ensures .same) (long three))
 
 pub right-head-spec : {M : Type 1} → statement M
 right-head-spec =

@@ -6,7 +6,7 @@ use native.Mathlib.Omega.{arith}
 use denote.Ref.{now}
 use lib.ListN.{length, drop, drop-of-length-le}
 use Rattle.head_fields.specs.Right.{rightIndices}
-use Rattle.head_fields.proofs.Checks.{wrong-index, stream-index, silent-index}
+use Rattle.head_fields.proofs.Checks.{wrong-index, stream-index, silence-index}
 use Rattle.head_fields.proofs.right_indices.Statement.{statement}
 use Rattle.head_fields.proofs.right_indices.Tie as tie
 
@@ -21,7 +21,7 @@ returns c =
     let w = c .before .before in
     let l = w .before .before .before in
     let a = l .before .before .args in
-    let e = w .wide .ensures .0 in
+    let e = w .wide .ensures .same in
     sym (wrong-index (a .n) (now (a .s)) (l .loop .i) (omega arith) (rw e at (c .before .if1 .taken)) (rw e at (c .if2 .taken))) ∙ l .loop .inv .0
 
 loop-again : tie.Need-loop-again Inv-loop μ-loop
@@ -29,9 +29,9 @@ loop-again c =
     let w = c .before in
     let l = w .before .before .before in
     let a = l .before .before .args in
-    let e = w .wide .ensures .0 in
+    let e = w .wide .ensures .same in
     ⊎-elim
-    (λ v. (silent-index (a .n) (now (a .s)) (l .loop .i) (omega arith) (rw e at (v .0 .taken)) (rw e at (v .1 .left)) ∙ l .loop .inv .0, omega arith))
+    (λ v. (silence-index (a .n) (now (a .s)) (l .loop .i) (omega arith) (rw e at (v .0 .taken)) (rw e at (v .1 .left)) ∙ l .loop .inv .0, omega arith))
     (λ v. (stream-index (a .n) (now (a .s)) (l .loop .i) (omega arith) (rw e at (v .left)) ∙ l .loop .inv .0, omega arith))
     (c .if1 .came)
 

@@ -46,7 +46,7 @@ returns-3 c =
     c .right-indices .ensures
     ∙ sym
     (indices-decide h (held (channels .ensures) (two .before .before .if1 .left))
-    (held (streams .ensures) (two .if2 .left)) sum (one .wide .ensures .0))
+    (held (streams .ensures) (two .if2 .left)) sum (one .wide .ensures .same))
 
 pub right-mapping-spec : {M : Type 1} → statement M
 right-mapping-spec =

@@ -22,10 +22,10 @@ module _ (c : tie.After-wide2) where
   family = c .before .before .if1 .left
 
   abbrev channels : c .before .wide .result ≡ head .channels
-  channels = c .before .wide .ensures .0
+  channels = c .before .wide .ensures .same
 
   abbrev coupled : c .wide2 .result ≡ head .coupled
-  coupled = c .wide2 .ensures .0
+  coupled = c .wide2 .ensures .same
 
 returns-2 : tie.Need-returns-2
 returns-2 c = let w = c .before .before in sym (other-streams (head w) (family w) (c .if2 .taken))

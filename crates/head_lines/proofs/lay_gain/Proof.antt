@@ -11,7 +11,7 @@ use Rattle.text_gain.proofs.Texts.{length-signed, length-end}
 use Rattle.head_lines.proofs.lay_gain.Statement.{statement}
 use Rattle.head_lines.proofs.lay_gain.Tie as tie
 
--- the number stands
+-- the number is laid
 signed : (c : tie.After-put-signed)
     → let a = c .before .before .before .args in Laid (now (a .out)) 0 (signedDecimal (a .g)) (c .put-signed .result) (c .put-signed .last .0)
 signed c =

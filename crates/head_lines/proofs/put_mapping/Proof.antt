@@ -5,33 +5,32 @@ use Prim.Native.Nat.{ℕ}
 use native.Mathlib.Omega.{arith}
 use borrow.Author.Needs.{needs}
 use denote.Ref.{now}
-use lib.ListN.{length, take, length-append, length-take}
+use lib.ListN.{length, take, length-take}
 use Rattle.octets.specs.Octets.{Bytes}
-use Rattle.text_put.specs.Marks.{lineFeed}
 use Rattle.text_put.proofs.Putting.{put-known}
 use Rattle.head_fields.specs.Right.{usedPlaces}
-use Rattle.head_lines.specs.Lines.{mappingIs, spaced, mappingLine}
+use Rattle.head_lines.specs.Lines.{mappingIs, mappingEnd, mappingLine}
 use Rattle.head_lines.proofs.Parts.{put-ended}
 use Rattle.head_lines.proofs.put_mapping.Statement.{statement}
 use Rattle.head_lines.proofs.put_mapping.Tie as tie
 
 -- the part that is used
 used : (c : tie.After-part-of) → now (c .part-of .result) ≡ usedPlaces (c .before .before .before .before .before .before .args .head)
-used c = c .part-of .ensures ∙ ap (λ (n : ℕ). take n (c .before .before .before .before .before .before .args .head .mapping)) (c .before .wide .ensures .0)
+used c = c .part-of .ensures ∙ ap (λ (n : ℕ). take n (c .before .before .before .before .before .before .args .head .mapping)) (c .before .wide .ensures .same)
 
 lay-mapping-requires : tie.Need-lay-mapping-requires
 lay-mapping-requires c κs =
     let h = c .before .before .before .before .before .before .args .head in
     let size = ap length (used c) ∙ length-take (h .channels) (h .mapping) in
-    (omega (arith, size, c .before .wide .ensures), omega arith)
+    record { few = omega (arith, size, c .before .wide .ensures); room = omega arith }
 
 returns : tie.Need-returns
 unfolding mappingLine
 returns c =
     let end = c .before .before .before .before .before .before .before .before .lay-mapping .ensures in
     let places = used (c .before .before .before .before .before .before .before .before .before) in
-    put-known (ap (λ (s : Bytes). mappingIs ++ (spaced s ++ lineFeed)) places)
-    (put-ended mappingIs (end .0) (omega (arith, end .1, length-append (spaced (now (c .before .before .before .before .before .before .before .before .before .part-of .result))) lineFeed)) (c .before .before .before .part-of2 .ensures) (c .before .before .put-both .ensures))
+    put-known (ap (λ (s : Bytes). mappingIs ++ mappingEnd s) places)
+    (put-ended mappingIs (end .laid) (omega (arith, end .short)) (c .before .before .before .part-of2 .ensures) (c .before .before .put-both .ensures))
 
 pub put-mapping-spec : {M : Type 1} → statement M
 put-mapping-spec =

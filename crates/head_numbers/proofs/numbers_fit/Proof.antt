@@ -5,16 +5,16 @@ use Prim.Native.Nat.{_-_, _≤_}
 use native.Mathlib.Omega.{arith}
 use denote.Ref.{now}
 use lib.ListN.{drop, drop-of-length-le}
-use Rattle.head_numbers.specs.Numbers.{limits as bounds, allBelow, fitting}
+use Rattle.head_numbers.specs.Numbers.{bounds as widths, allBelow, fitting}
 use Rattle.head_numbers.proofs.Below.{below-stop, below-next}
 use Rattle.head_numbers.proofs.numbers_fit.Statement.{statement}
 use Rattle.head_numbers.proofs.numbers_fit.Tie as tie
 
 abbrev Inv-loop : tie.InvT-loop
-Inv-loop fields limits i₀ i = (allBelow (drop i bounds) (drop i fields) ≡ fitting fields) × (i ≤ 8)
+Inv-loop fields bounds i₀ i = (allBelow (drop i widths) (drop i fields) ≡ fitting fields) × (i ≤ 8)
 
 abbrev μ-loop : tie.MeasureT-loop
-μ-loop fields limits i₀ i = 8 - i
+μ-loop fields bounds i₀ i = 8 - i
 
 loop-holds : tie.Need-loop-holds Inv-loop μ-loop
 unfolding fitting
@@ -24,18 +24,18 @@ returns : tie.Need-returns Inv-loop μ-loop
 returns c =
     let l = c .before .before .before in
     let f = now (l .before .args .fields) in
-    sym (below-stop bounds f (l .loop .i) (omega arith) (c .if1 .taken)) ∙ l .loop .inv .0
+    sym (below-stop widths f (l .loop .i) (omega arith) (c .if1 .taken)) ∙ l .loop .inv .0
 
 loop-again : tie.Need-loop-again Inv-loop μ-loop
 loop-again c =
     let l = c .before .before .before in
     let f = now (l .before .args .fields) in
-    (below-next bounds f (l .loop .i) (omega arith) (c .if1 .left) ∙ l .loop .inv .0, omega arith)
+    (below-next widths f (l .loop .i) (omega arith) (c .if1 .left) ∙ l .loop .inv .0, omega arith)
 
 returns-2 : tie.Need-returns-2 Inv-loop μ-loop
 unfolding allBelow
 returns-2 c =
-    let none : drop (c .before .loop .i) bounds ≡ [] = drop-of-length-le bounds {i = c .before .loop .i} (omega arith) in
+    let none : drop (c .before .loop .i) widths ≡ [] = drop-of-length-le widths {i = c .before .loop .i} (omega arith) in
     rw none at (c .before .loop .inv .0)
 
 pub numbers-fit-spec : {M : Type 1} → statement M

@@ -5,6 +5,7 @@ use denote.Ref.{now}
 use mir.Syntax.{w16}
 use mir.Val.{toZ, ofZ}
 use Rattle.octets.specs.Numbers.{number}
+use Rattle.head_fields.specs.Layout.{gainPlace}
 use Rattle.head_reader.specs.Fields.{headOf}
 use Rattle.head_reader.proofs.head_of.Statement.{statement}
 use Rattle.head_reader.proofs.head_of.Tie as tie
@@ -23,7 +24,7 @@ returns c =
     let bits = signed .before in
     let z = signed .signed16 .result in
     let kept : toZ w16 (ofZ w16 z) ≡ z = search needs in
-    let gain : toZ w16 (ofZ w16 z) ≡ toZ w16 (number 2 (now (bits .before .before .args .b)) 16) =
+    let gain : toZ w16 (ofZ w16 z) ≡ toZ w16 (number 2 (now (bits .before .before .args .b)) gainPlace) =
     (kept ∙ signed .signed16 .ensures ∙ ap (toZ w16) (bits .number16 .ensures)) in
     rw (
       version .byte-at .ensures,

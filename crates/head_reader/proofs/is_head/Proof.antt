@@ -1,13 +1,13 @@
 -- `head_reader::is_head` meets its contract: the first test that fails decides, and the length last. Assumes nothing.
 use mathlib.Core.Path.{sym, ap, ap₂, _∙_}
-use Prim.Native.Nat.{ℕ, _+_}
+use Prim.Native.Nat.{ℕ}
 use borrow.Author.Needs.{needs}
 use borrow.Author.Tests.{not-true, not-false}
 use denote.Ref.{now}
 use lib.Dec.{eqb}
 use lib.ListN.{length}
 use Rattle.octets.proofs.Tests.{equals, unequal}
-use Rattle.head_fields.specs.Right.{tableLength}
+use Rattle.head_fields.specs.Layout.{headLength}
 use Rattle.head_reader.proofs.Places.{no-signature, other-version, short-head, length-decides}
 use Rattle.head_reader.proofs.is_head.Statement.{statement}
 use Rattle.head_reader.proofs.is_head.Tie as tie
@@ -43,7 +43,7 @@ returns-4 c =
     let first = second .before .before in
     let call = first .before .begins-with in
     let b = now (first .before .before .before .before .args .b) in
-    ap (λ (n : ℕ). eqb (length b) (19 + n)) (c .table-length .ensures .0 ∙ ap₂ tableLength (family .byte-at2 .ensures) (channels .byte-at3 .ensures))
+    ap (λ (n : ℕ). eqb (length b) n) (c .head-length .ensures ∙ ap₂ headLength (family .byte-at2 .ensures) (channels .byte-at3 .ensures))
     ∙ sym
     (length-decides b (sym (call .ensures) ∙ not-false (call .result) (first .if1 .left))
     (equals (second .before .byte-at .ensures) (second .if2 .left)) (third .if3 .left))
@@ -53,4 +53,4 @@ is-head-spec =
     tie.close
     (tie.spec
     (λ c. search needs) (λ c κs. search needs) returns (λ c κs. search needs) returns-2
-    returns-3 (λ c κs. search needs) (λ c κs. search needs) (λ c κs. search needs) (λ c. search needs) returns-4)
+    returns-3 (λ c κs. search needs) (λ c κs. search needs) (λ c κs. search needs) returns-4)

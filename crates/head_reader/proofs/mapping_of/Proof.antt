@@ -18,7 +18,7 @@ returns c =
     let b = now (count .before .before .args .b) in
     c .before .copy-at .ensures
     ∙ ap (copied (replicate 255 0) 0) (part .part-of .ensures)
-    ∙ from-table b (width .wide .result) (width .wide .ensures .1) (width .wide .ensures .0 ∙ count .byte-at .ensures)
+    ∙ from-table b (width .wide .result) (width .wide .ensures .most) (width .wide .ensures .same ∙ count .byte-at .ensures)
     (unequal (family .byte-at2 .ensures) (part .before .before .if1 .taken))
 
 returns-2 : tie.Need-returns-2
@@ -27,7 +27,7 @@ returns-2 c =
     let width = family .before in
     let count = width .before in
     let b = now (count .before .before .args .b) in
-    from-two b (width .wide .result) (c .if2 .taken) (width .wide .ensures .0 ∙ count .byte-at .ensures)
+    from-two b (width .wide .result) (c .if2 .taken) (width .wide .ensures .same ∙ count .byte-at .ensures)
     (equals (family .byte-at2 .ensures) (c .before .if1 .left))
 
 returns-3 : tie.Need-returns-3
@@ -36,7 +36,7 @@ returns-3 c =
     let width = family .before in
     let count = width .before in
     let b = now (count .before .before .args .b) in
-    from-one b (width .wide .result) (c .if2 .left) (width .wide .ensures .0 ∙ count .byte-at .ensures)
+    from-one b (width .wide .result) (c .if2 .left) (width .wide .ensures .same ∙ count .byte-at .ensures)
     (equals (family .byte-at2 .ensures) (c .before .if1 .left))
 
 pub mapping-of-spec : {M : Type 1} → statement M

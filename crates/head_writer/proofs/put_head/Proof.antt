@@ -1,4 +1,4 @@
--- `head_writer::put_head` meets its contract: the copies stand one behind the other. Assumes nothing.
+-- `head_writer::put_head` meets its contract: the copies follow each other. Assumes nothing.
 use mathlib.Core.Path.{_≡_, sym}
 use native.Mathlib.Omega.{arith}
 use borrow.Author.Needs.{needs}
@@ -17,7 +17,7 @@ array-share-prefix-mapping c =
     let fields = start .good .0 .1 .1 in
     let mapping = fields .1 .1 .1 .1 .1 .1 .1 .1 .0 in
     let size : length (start .args .h .mapping) ≡ 255 = search needs in
-    omega (arith, width .wide .ensures .1)
+    omega (arith, width .wide .ensures .most)
 
 slice-aggregate-copy-at-2 : tie.Need-slice-aggregate-copy-at-2
 slice-aggregate-copy-at-2 c = sym (length-take-le _ _ (array-share-prefix-mapping (c .before)))
@@ -36,7 +36,7 @@ returns c =
     let counts = test .before .struct-known .given .1 .1 .1 .1 .1 .1 in
     put-table h (now (start .args .out)) (made .start-of .result) (front .copy-at .last .0) (first .put8 .last .0)
     (second .put82 .last .0) (last .copy-at2 .last .0) (width .wide .result) (test .if1 .taken) (start .pre)
-    (counts .0 .fits) (counts .1 .0 .fits) (width .wide .ensures .0) (array-share-prefix-mapping (last .before .before)) (made .start-of .ensures)
+    (counts .0 .fits) (counts .1 .0 .fits) (width .wide .ensures .same) (array-share-prefix-mapping (last .before .before)) (made .start-of .ensures)
     (front .copy-at .ensures) (first .put8 .ensures) (second .put82 .ensures) (last .copy-at2 .ensures)
 
 returns-2 : tie.Need-returns-2

@@ -17,7 +17,7 @@ returns-2 c =
     let first = c .before .before in
     let a = first .before .before .before .args in
     not-written (a .h) (now (a .out)) ShortOutput
-    (short-output (a .h) (now (a .out)) (c .before .table-length .ensures .0) (held (first .before .right-head .ensures) (first .if1 .left)) (c .if2 .taken))
+    (short-output (a .h) (now (a .out)) (c .before .head-length .ensures) (held (first .before .right-head .ensures) (first .if1 .left)) (c .if2 .taken))
 
 returns-3 : tie.Need-returns-3
 returns-3 c =
@@ -25,12 +25,12 @@ returns-3 c =
     let size = room .before in
     let first = size .before in
     let a = first .before .before .before .args in
-    wrote (a .h) (now (a .out)) (size .table-length .ensures .0) (c .before .before .put-head .ensures)
-    (writable (a .h) (now (a .out)) (size .table-length .ensures .0) (held (first .before .right-head .ensures) (first .if1 .left)) (room .if2 .left))
+    wrote (a .h) (now (a .out)) (size .head-length .ensures) (c .before .before .put-head .ensures)
+    (writable (a .h) (now (a .out)) (size .head-length .ensures) (held (first .before .right-head .ensures) (first .if1 .left)) (room .if2 .left))
 
 pub write-head-spec : {M : Type 1} → statement M
 write-head-spec =
     tie.close
     (tie.spec
-    (λ c κs. search needs) returns (λ c κs. search needs) (λ c. search needs) returns-2 (λ c κs. search needs)
+    (λ c κs. search needs) returns (λ c κs. search needs) returns-2 (λ c κs. search needs)
     (λ c. search needs) returns-3)

@@ -9,20 +9,20 @@ use lib.ListN.{length}
 use Rattle.list.proofs.run.Statement.{statement}
 use Rattle.list.proofs.run.Tie as tie
 
-record Lengths (buffer₀ carry₀ ends₀ sizes₀ kept₀ out₀ buffer carry ends sizes kept out : List ℕ) : Type 0 where
+record Lengths (buffer₀ carry₀ ends₀ lengths₀ kept₀ out₀ buffer carry ends lengths kept out : List ℕ) : Type 0 where
   bytes : length buffer ≡ length buffer₀
   held : length carry ≡ length carry₀
   stamps : length ends ≡ length ends₀
-  samples : length sizes ≡ length sizes₀
+  samples : length lengths ≡ length lengths₀
   keeps : length kept ≡ length kept₀
   text : length out ≡ length out₀
 
 abbrev Inv-loop : tie.InvT-loop
-Inv-loop buffer₀ carry₀ ends₀ sizes₀ kept₀ out₀ w₀ turns₀ buffer carry ends sizes kept out w turns =
-    Lengths buffer₀ carry₀ ends₀ sizes₀ kept₀ out₀ buffer carry ends sizes kept out
+Inv-loop buffer₀ carry₀ ends₀ lengths₀ kept₀ out₀ w₀ turns₀ buffer carry ends lengths kept out w turns =
+    Lengths buffer₀ carry₀ ends₀ lengths₀ kept₀ out₀ buffer carry ends lengths kept out
 
 abbrev μ-loop : tie.MeasureT-loop
-μ-loop buffer₀ carry₀ ends₀ sizes₀ kept₀ out₀ w₀ turns₀ buffer carry ends sizes kept out w turns = turns
+μ-loop buffer₀ carry₀ ends₀ lengths₀ kept₀ out₀ w₀ turns₀ buffer carry ends lengths kept out w turns = turns
 
 -- after a turn
 module _ (c : tie.After-slice-known12 Inv-loop μ-loop) where
@@ -37,13 +37,13 @@ module _ (c : tie.After-slice-known12 Inv-loop μ-loop) where
 
   same : let a = entry .args in
       let l = call .turn .last in
-      Lengths (now (a .buffer)) (now (a .carry)) (now (a .ends)) (now (a .sizes)) (now (a .kept)) (now (a .out))
+      Lengths (now (a .buffer)) (now (a .carry)) (now (a .ends)) (now (a .lengths)) (now (a .kept)) (now (a .out))
       (l .1 .0) (l .1 .1 .0) (l .1 .1 .1 .0) (l .1 .1 .1 .1 .0) (l .1 .1 .1 .1 .1 .0) (l .1 .1 .1 .1 .1 .1 .0)
   same = (let inv = turn .before .loop .inv in record {
     bytes = c .before .before .before .before .before .before .before .before .before .before .before .buffer .given ∙ inv .bytes;
     held = c .before .before .before .before .before .before .before .before .before .carry .given ∙ inv .held;
     stamps = c .before .before .before .before .before .before .before .ends .given ∙ inv .stamps;
-    samples = c .before .before .before .before .before .sizes .given ∙ inv .samples;
+    samples = c .before .before .before .before .before .lengths .given ∙ inv .samples;
     keeps = c .before .before .before .kept .given ∙ inv .keeps;
     text = c .before .out .given ∙ inv .text;
   })

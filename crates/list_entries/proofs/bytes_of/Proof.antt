@@ -23,8 +23,8 @@ module _ (c : tie.Else4) where
   bytes : Octets (now (entry .args .out))
   bytes = record { below = λ i. known .shared-slice-known .given i .fits }
 
-  tail : c .before .before .before .digits-of .result + c .before .before .digits-of2 .result + 3 ≡ length (tailLine (entry .args .size) (entry .args .kept))
-  tail = sym (length-tail (entry .args .size) (entry .args .kept) ∙ omega (arith, c .before .before .before .digits-of .ensures .0, c .before .before .digits-of2 .ensures .0))
+  tail : c .before .before .before .digits-of .result + c .before .before .digits-of2 .result + 3 ≡ length (tailLine (entry .args .samples) (entry .args .kept))
+  tail = sym (length-tail (entry .args .samples) (entry .args .kept) ∙ omega (arith, c .before .before .before .digits-of .ensures .digits, c .before .before .digits-of2 .ensures .digits))
 
   ends : entry .args .next
       ≡ entry .args .at + length (decimal (entry .args .end / 10000)) + 4

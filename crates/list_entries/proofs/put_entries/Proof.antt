@@ -6,16 +6,17 @@ use native.Mathlib.Omega.{arith}
 use borrow.Author.Needs.{needs}
 use borrow.Author.Tests.{ltb-false}
 use lib.ListN.{length}
+use Rattle.list_lines.specs.Lines.{longest}
 use Rattle.list_entries.specs.Code.{Sound}
 use Rattle.list_entries.proofs.Lines.{Done, done-starts, same-size, all-done, no-room, one-more}
 use Rattle.list_entries.proofs.put_entries.Statement.{statement}
 use Rattle.list_entries.proofs.put_entries.Tie as tie
 
 abbrev Inv-loop : tie.InvT-loop
-Inv-loop out₀ at ends sizes kept n place₀ repeat₀ i₀ out place repeat i = Done out₀ at ends sizes kept out place i × Sound repeat
+Inv-loop out₀ at ends lengths kept n place₀ repeat₀ i₀ out place repeat i = Done out₀ at ends lengths kept out place i × Sound repeat
 
 abbrev μ-loop : tie.MeasureT-loop
-μ-loop out₀ at ends sizes kept n place₀ repeat₀ i₀ out place repeat i = n - i
+μ-loop out₀ at ends lengths kept n place₀ repeat₀ i₀ out place repeat i = n - i
 
 -- where a turn begins
 module _ (c : tie.In-loop Inv-loop μ-loop) where
@@ -28,8 +29,8 @@ module _ (c : tie.In-loop Inv-loop μ-loop) where
   in-ends : here .loop .i < length (sized .before .before .before .before .before .before .args .ends .now)
   in-ends = omega (arith, sized .least2 .ensures, sized .before .least .ensures, c .loop-test .taken)
 
-  in-sizes : here .loop .i < length (sized .before .before .before .before .before .before .args .sizes .now)
-  in-sizes = omega (arith, sized .least2 .ensures, sized .before .least .ensures, c .loop-test .taken)
+  in-lengths : here .loop .i < length (sized .before .before .before .before .before .before .args .lengths .now)
+  in-lengths = omega (arith, sized .least2 .ensures, sized .before .least .ensures, c .loop-test .taken)
 
   in-kept : here .loop .i < length (sized .before .before .before .before .before .before .args .kept .now)
   in-kept = omega (arith, sized .least2 .ensures, sized .before .least .ensures, c .loop-test .taken)
@@ -38,21 +39,21 @@ returns : tie.Need-returns Inv-loop μ-loop
 returns c =
     let test = c .before in
     let turn = test .before in
-    no-room (here turn .loop .inv .0) (in-ends turn) (in-sizes turn) (in-kept turn) (sym (test .lacks-line .ensures) ∙ c .if1 .taken)
+    no-room (here turn .loop .inv .0) (in-ends turn) (in-lengths turn) (in-kept turn) (sym (test .lacks-line .ensures) ∙ c .if1 .taken)
 
 put-next-requires : tie.Need-put-next-requires Inv-loop μ-loop
 put-next-requires c κs =
     let room = c .before .before .before .before in
     let at = here (room .before .before) .loop in
-    let left = ltb-false (length (at .out) - at .place) 63 (sym (room .before .lacks-line .ensures) ∙ room .if1 .left) in
-    (omega arith, at .inv .1)
+    let left = ltb-false (length (at .out) - at .place) longest (sym (room .before .lacks-line .ensures) ∙ room .if1 .left) in
+    record { room = omega arith; sound = at .inv .1 }
 
 loop-again : tie.Need-loop-again Inv-loop μ-loop
 loop-again c =
     let put = c .before .before .before in
     let room = put .before .before .before .before .before in
     let turn = room .before .before in (
-      one-more (here turn .loop .inv .0) (in-ends turn) (in-sizes turn) (in-kept turn) (sym (room .before .lacks-line .ensures) ∙ room .if1 .left)
+      one-more (here turn .loop .inv .0) (in-ends turn) (in-lengths turn) (in-kept turn) (sym (room .before .lacks-line .ensures) ∙ room .if1 .left)
           (put .put-next .ensures .laid) (put .put-next .ensures .within),
       put .put-next .ensures .sound,
     )
@@ -60,8 +61,8 @@ loop-again c =
 returns-2 : tie.Need-returns-2 Inv-loop μ-loop
 returns-2 c =
     let at = c .before in
-    let sizes = at .before .before in
-    all-done (at .loop .inv .0) (omega (arith, sizes .least2 .ensures, sizes .before .least .ensures, c .loop-test .left))
+    let lengths = at .before .before in
+    all-done (at .loop .inv .0) (omega (arith, lengths .least2 .ensures, lengths .before .least .ensures, c .loop-test .left))
 
 pub put-entries-spec : {M : Type 1} → statement M
 put-entries-spec =

@@ -5,14 +5,14 @@ use Rattle.list_entries.proofs.Following.{Says, says, again, same-line,
 use Rattle.list_entries.proofs.put_next.Statement.{statement}
 use Rattle.list_entries.proofs.put_next.Tie as tie
 
-told : (c : tie.Then1) → let a = c .before .before .before .args in Says (a .c) (a .end) (a .size) (a .kept)
-told c = let a = c .before .before .before .args in says (a .c) (a .end) (a .size) (a .kept) (sym (c .before .is-again .ensures) ∙ c .if1 .taken)
+told : (c : tie.Then1) → let a = c .before .before .before .args in Says (a .c) (a .end) (a .samples) (a .kept)
+told c = let a = c .before .before .before .args in says (a .c) (a .end) (a .samples) (a .kept) (sym (c .before .is-again .ensures) ∙ c .if1 .taken)
 
 put-again-requires : tie.Need-put-again-requires
 put-again-requires c κs =
     let test = c .before in
     let entry = test .before .before .before in
-    again (told test) (entry .pre .0) (entry .pre .1)
+    again (told test) (entry .pre .room) (entry .pre .sound)
 
 returns : tie.Need-returns
 returns c =
@@ -22,24 +22,24 @@ returns c =
     let line = same-line (told test) (put .put-again .ensures) in
     record {
       laid = line;
-      within = ends-within _ _ _ (entry .pre .0) (entry .fits .end .fits) (entry .fits .size .fits) (entry .fits .kept .fits) line;
-      sound = entry .pre .1;
+      within = ends-within _ _ _ (entry .pre .room) (entry .fits .end .fits) (entry .fits .samples .fits) (entry .fits .kept .fits) line;
+      sound = entry .pre .sound;
     }
 
 bytes-of-requires : tie.Need-bytes-of-requires
 bytes-of-requires c κs =
     let put = c .before .before .before in
     let entry = put .before .before .before .before .before in
-    stands _ _ _ (entry .pre .0) (entry .fits .end .fits) (entry .fits .size .fits) (entry .fits .kept .fits) (put .put-entry .ensures)
+    stands _ _ _ (entry .pre .room) (entry .fits .end .fits) (entry .fits .samples .fits) (entry .fits .kept .fits) (put .put-entry .ensures)
 
 returns-2 : tie.Need-returns-2
 returns-2 c =
     let put = c .before .before .before .before in
     let entry = put .before .before .before .before .before in
-    let line = laid _ _ _ (entry .pre .0) (entry .fits .end .fits) (entry .fits .size .fits) (entry .fits .kept .fits) (put .put-entry .ensures) in
+    let line = laid _ _ _ (entry .pre .room) (entry .fits .end .fits) (entry .fits .samples .fits) (entry .fits .kept .fits) (put .put-entry .ensures) in
     record {
       laid = line;
-      within = ends-within _ _ _ (entry .pre .0) (entry .fits .end .fits) (entry .fits .size .fits) (entry .fits .kept .fits) line;
+      within = ends-within _ _ _ (entry .pre .room) (entry .fits .end .fits) (entry .fits .samples .fits) (entry .fits .kept .fits) line;
       sound = c .bytes-of .ensures;
     }
 

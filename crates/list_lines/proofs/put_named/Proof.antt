@@ -1,4 +1,4 @@
--- `list_lines::put_named` meets its contract: the digits right behind the name. Assumes nothing.
+-- `list_lines::put_named` meets its contract: the digits right after the name. Assumes nothing.
 use mathlib.Core.Path.{refl}
 use native.Mathlib.Omega.{arith}
 use Rattle.text_put.proofs.Laying.{laid-as}

@@ -1,4 +1,4 @@
--- `list_lines::put_pair` meets its contract: one number and its name right behind another. Assumes nothing.
+-- `list_lines::put_pair` meets its contract: one number and its name right after another. Assumes nothing.
 use native.Mathlib.Omega.{arith}
 use denote.Ref.{now}
 use lib.ListN.{length-append}

@@ -26,7 +26,7 @@ returns c =
     let a = c .before .before .args in
     let none : drop (a .at) (now (a .s)) ≡ [] = drop-of-length-le (now (a .s)) (c .if1 .taken) in
     let e : take (a .n) (drop (a .at) (now (a .s))) ≡ [] = ap (take (a .n)) none ∙ take-nil (a .n) in
-    (sym (ap value e), one-le-pow (a .n) 256 (omega arith))
+    record { number = sym (ap value e); below = one-le-pow (a .n) 256 (omega arith) }
 
 loop-holds : tie.Need-loop-holds Inv-loop μ-loop
 unfolding value
@@ -72,7 +72,7 @@ loop-again c =
     let here : a .at + (a .n - 1 - l .j) ≡ q = omega arith in
     let next : a .at + (a .n - l .j) ≡ suc q = omega arith in
     let more : 256 ^ (l .j + 1) ≡ p * 256 = rw add-one (pow-suc 256 (l .j)) in
-    let byte : c .wide .result ≡ getD (now (a .s)) q 0 = c .wide .ensures .0 ∙ c .before .byte-at .ensures ∙ ap (λ (i : ℕ). getD (now (a .s)) i 0) here in
+    let byte : c .wide .result ≡ getD (now (a .s)) q 0 = c .wide .ensures .same ∙ c .before .byte-at .ensures ∙ ap (λ (i : ℕ). getD (now (a .s)) i 0) here in
     let rest : l .x ≡ value (take (l .j) (drop (suc q) (now (a .s)))) = rw next at (l .inv .0) in
     let step = value-more (now (a .s)) q (l .j) (l .x) rest in
     (omega arith, omega arith, omega arith)
@@ -84,7 +84,7 @@ returns-2 c =
     let l = c .before .loop in
     let all : l .j ≡ a .n = omega arith in
     let none : a .at + (a .n - a .n) ≡ a .at = omega arith in
-    (rw (all, none) at (l .inv .0), rw all at (l .inv .1))
+    record { number = rw (all, none) at (l .inv .0); below = rw all at (l .inv .1) }
 
 pub number-at-spec : {M : Type 1} → statement M
 number-at-spec =

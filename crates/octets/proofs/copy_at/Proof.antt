@@ -3,9 +3,11 @@ use mathlib.Core.Path.{_≡_, sym, ap, _∙_}
 use Prim.Native.Nat.{_+_, _-_, _≤_}
 use native.Mathlib.Numerals.{add-one}
 use native.Mathlib.Omega.{arith}
+use borrow.Author.Needs.{needs}
 use denote.Ref.{now}
 use lib.ListN.{length, getD, set}
 use lib.Seq.{paste, paste-zero, paste-suc, length-paste}
+use Rattle.octets.proofs.Tests.{is-below, not-below}
 use Rattle.octets.proofs.Copying.{copied-fits, copied-short}
 use Rattle.octets.proofs.copy_at.Statement.{statement}
 use Rattle.octets.proofs.copy_at.Tie as tie
@@ -17,16 +19,14 @@ abbrev μ-loop : tie.MeasureT-loop
 μ-loop d₀ at s j₀ d j = length s - j
 
 returns : tie.Need-returns Inv-loop μ-loop
-returns c = let a = c .before .args in sym (copied-short (now (a .d)) (a .at) (now (a .s)) (omega arith))
-
-sub-if2 : tie.Need-sub-if2 Inv-loop μ-loop
-sub-if2 c = omega arith
-
-returns-2 : tie.Need-returns-2 Inv-loop μ-loop
-returns-2 c = let a = c .before .before .args in sym (copied-short (now (a .d)) (a .at) (now (a .s)) (omega arith))
+returns c =
+    let a = c .before .before .before .before .args in
+    sym (copied-short (now (a .d)) (a .at) (now (a .s)) (is-below (c .before .is-short .ensures) (c .if1 .taken)))
 
 loop-holds : tie.Need-loop-holds Inv-loop μ-loop
-loop-holds c = let a = c .before .before .args in (paste-zero (now (a .d)) (a .at) (now (a .s)), omega arith, omega arith, omega arith)
+loop-holds c =
+    let a = c .before .before .before .before .args in
+    (paste-zero (now (a .d)) (a .at) (now (a .s)), omega arith, omega arith, not-below (c .before .is-short .ensures) (c .if1 .left))
 
 shared-slice-read-d : tie.Need-shared-slice-read-d Inv-loop μ-loop
 shared-slice-read-d c = omega arith
@@ -45,7 +45,7 @@ loop-less c = omega arith
 
 loop-again : tie.Need-loop-again Inv-loop μ-loop
 loop-again c =
-    let a = c .before .before .before .before .before .args in
+    let a = c .before .before .before .before .before .before .before .args in
     let l = c .before .before .loop in
     let step : set (l .d) (a .at + l .j) (getD (now (a .s)) (l .j) 0) ≡ paste (now (a .d)) (a .at) (now (a .s)) (l .j + 1) =
     (rw (l .inv .0, add-one (l .j)) (paste-suc (now (a .d)) (a .at) (now (a .s)) (l .j) 0 (omega arith) (omega arith))) in
@@ -54,9 +54,9 @@ loop-again c =
 same-length : tie.Need-same-length Inv-loop μ-loop
 same-length c = c .before .loop .inv .2
 
-returns-3 : tie.Need-returns-3 Inv-loop μ-loop
-returns-3 c =
-    let a = c .before .before .before .before .args in
+returns-2 : tie.Need-returns-2 Inv-loop μ-loop
+returns-2 c =
+    let a = c .before .before .before .before .before .before .args in
     let l = c .before .loop in
     let all : l .j ≡ length (now (a .s)) = omega arith in
     l .inv .0 ∙ ap (paste (now (a .d)) (a .at) (now (a .s))) all ∙ sym (copied-fits (now (a .d)) (a .at) (now (a .s)) (l .inv .3))
@@ -64,4 +64,5 @@ returns-3 c =
 pub copy-at-spec : {M : Type 1} → statement M
 copy-at-spec =
     tie.close
-    (tie.spec Inv-loop μ-loop returns sub-if2 returns-2 loop-holds shared-slice-read-d add-d slice-write-d add-j loop-less loop-again same-length returns-3)
+    (tie.spec
+    Inv-loop μ-loop (λ c κs. search needs) returns loop-holds shared-slice-read-d add-d slice-write-d add-j loop-less loop-again same-length returns-2)

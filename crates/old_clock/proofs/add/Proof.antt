@@ -11,12 +11,12 @@ returns : tie.Need-returns
 returns c =
     let call = c .before in
     let a = call .before .args in
-    sym (wrong-length (a .clock) (a .length) (failed (call .right-length .ensures) (c .if1 .taken)))
+    sym (wrong-length (a .clock) (a .samples) (failed (call .right-length .ensures) (c .if1 .taken)))
 
 sub-if2 : tie.Need-sub-if2
 sub-if2 c =
     let call = c .before in
-    let right = right-length (call .before .args .length) (held (call .right-length .ensures) (c .if1 .left)) in
+    let right = right-length (call .before .args .samples) (held (call .right-length .ensures) (c .if1 .left)) in
     omega arith
 
 returns-2 : tie.Need-returns-2
@@ -25,13 +25,13 @@ returns-2 c =
     let call = first .before in
     let a = call .before .args in
     let e = held (call .right-length .ensures) (first .if1 .left) in
-    let right = right-length (a .length) e in
-    sym (past-most (a .clock) (a .length) (omega arith) e)
+    let right = right-length (a .samples) e in
+    sym (past-most (a .clock) (a .samples) (omega arith) e)
 
 cast-step : tie.Need-cast-step
 cast-step c =
     let call = c .before .before in
-    let right = right-length (call .before .args .length) (held (call .right-length .ensures) (c .before .if1 .left)) in
+    let right = right-length (call .before .args .samples) (held (call .right-length .ensures) (c .before .if1 .left)) in
     record { fits = omega arith }
 
 returns-3 : tie.Need-returns-3
@@ -41,8 +41,8 @@ returns-3 c =
     let call = first .before in
     let a = call .before .args in
     let e = held (call .right-length .ensures) (first .if1 .left) in
-    let right = right-length (a .length) e in
-    sym (taken (a .clock) (a .length) (omega arith) e)
+    let right = right-length (a .samples) e in
+    sym (taken (a .clock) (a .samples) (omega arith) e)
 
 pub add-spec : {M : Type 1} → statement M
 add-spec =

@@ -9,4 +9,4 @@ unfolding isSingle
 returns c = rw (← c .byte-at .ensures)
 
 pub is-single-spec : {M : Type 1} → statement M
-is-single-spec = tie.close (tie.spec (λ c κs. search needs) returns)
+is-single-spec = tie.close (tie.spec (λ c κs. search needs) (λ c. search needs) returns)

@@ -15,7 +15,7 @@ abbrev μ-loop : tie.MeasureT-loop
 
 loop-again : tie.Need-loop-again Inv-loop μ-loop
 loop-again c =
-    block-turn (omega arith) (omega arith) (c .before .before .before .loop .inv) (c .before .met .ensures .0) (c .entry .ensures)
+    block-turn (omega arith) (omega arith) (c .before .before .before .loop .inv) (c .before .met .ensures .byte) (c .entry .ensures)
 
 pub block-spec : {M : Type 1} → statement M
 block-spec =

@@ -23,14 +23,14 @@ abbrev μ-loop2 : tie.MeasureT-loop2
 loop-again : tie.Need-loop-again Inv-loop μ-loop Inv-loop2 μ-loop2
 loop-again c =
     let old = c .before .before .before .loop .inv .0 in
-    (block-turn (omega arith) (omega arith) old (c .before .met .ensures .0) (c .half-entry .ensures), omega arith)
+    (block-turn (omega arith) (omega arith) old (c .before .met .ensures .byte) (c .half-entry .ensures), omega arith)
 
 loop2-holds : tie.Need-loop2-holds Inv-loop μ-loop Inv-loop2 μ-loop2
 loop2-holds c = let all : c .before .loop .j ≡ c .before .before .least .result = omega arith in rw all at (c .before .loop .inv .0)
 
 loop2-again : tie.Need-loop2-again Inv-loop μ-loop Inv-loop2 μ-loop2
 loop2-again c =
-    block-turn (omega arith) (omega arith) (c .before .before .before .loop2 .inv) (c .before .met2 .ensures .0)
+    block-turn (omega arith) (omega arith) (c .before .before .before .loop2 .inv) (c .before .met2 .ensures .byte)
     (c .half-entry2 .ensures)
 
 pub half-block-spec : {M : Type 1} → statement M

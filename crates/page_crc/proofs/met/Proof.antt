@@ -29,7 +29,7 @@ cast-result : tie.Need-cast-result
 cast-result c = omega (arith, met-lt c)
 
 returns : tie.Need-returns
-returns c = (ap (λ (w : ℕ). bitXor (w / 2 ^ 24) (found c)) (c .before .shifted .ensures), met-lt c)
+returns c = record { byte = ap (λ (w : ℕ). bitXor (w / 2 ^ 24) (found c)) (c .before .shifted .ensures); below = met-lt c }
 
 pub met-spec : {M : Type 1} → statement M
 met-spec =

@@ -12,7 +12,7 @@ returns c = rw (lt-leb _ _ (c .if1 .taken))
 
 returns-2 : tie.Need-returns-2
 unfolding isBody
-returns-2 c = rw (le-leb _ _ (c .before .if1 .left), c .sum-of .ensures .0, take-all 255 _ (c .before .if1 .left))
+returns-2 c = rw (le-leb _ _ (c .before .if1 .left), c .sum-of .ensures .sum, take-all 255 _ (c .before .if1 .left))
 
 pub is-body-spec : {M : Type 1} → statement M
 is-body-spec = tie.close (tie.spec returns (λ c κs. search needs) returns-2)

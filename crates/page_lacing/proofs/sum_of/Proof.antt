@@ -23,7 +23,7 @@ unfolding total
 next s i h =
     rw (add-one i, drop-cons (take 255 s) i 0 (omega (arith, length-take 255 s)), getD-take 255 s i 0 (omega arith))
 
--- nothing is left behind them
+-- nothing is left after them
 none-left : (s : Bytes) (i : ℕ) → min 255 (length s) ≤ i → total (drop i (take 255 s)) ≡ 0
 unfolding total
 none-left s i h =
@@ -35,14 +35,14 @@ loop-again c =
     let l = c .before .before .before .loop in
     let s = now (c .before .before .before .before .before .before .args .lacing) in
     let step = next s (l .i) (omega arith) in
-    (omega (arith, c .wide .ensures .0), omega arith, omega arith)
+    (omega (arith, c .wide .ensures .same), omega arith, omega arith)
 
 returns : tie.Need-returns Inv-loop μ-loop
 returns c =
     let l = c .before .loop in
     let s = now (c .before .before .before .before .args .lacing) in
     let none = none-left s (l .i) (omega arith) in
-    (omega arith, omega arith)
+    omega arith
 
 pub sum-of-spec : {M : Type 1} → statement M
 sum-of-spec =

@@ -4,6 +4,7 @@ use Prim.Native.Nat.{ℕ}
 use borrow.Author.Needs.{needs}
 use denote.Ref.{now}
 use lib.ListN.{take, drop}
+use Rattle.page_layout.specs.Places.{lacingAt}
 use Rattle.page_layout.specs.Page.{lacingOf}
 use Rattle.page_layout.proofs.lacing_of.Statement.{statement}
 use Rattle.page_layout.proofs.lacing_of.Tie as tie
@@ -11,9 +12,8 @@ use Rattle.page_layout.proofs.lacing_of.Tie as tie
 returns : tie.Need-returns
 unfolding lacingOf
 returns c =
-    let w = c .before in
-    let page = now (w .before .before .before .args .page) in
-    c .part-of .ensures ∙ ap (λ (n : ℕ). take n (drop 27 page)) (w .wide .ensures .0 ∙ w .before .byte-at .ensures)
+    let page = now (c .before .before .before .args .page) in
+    c .part-of .ensures ∙ ap (λ (n : ℕ). take n (drop lacingAt page)) (c .before .count-of .ensures .same)
 
 pub lacing-of-spec : {M : Type 1} → statement M
-lacing-of-spec = tie.close (tie.spec (λ c κs. search needs) (λ c κs. search needs) (λ c κs. search needs) returns)
+lacing-of-spec = tie.close (tie.spec (λ c κs. search needs) (λ c κs. search needs) returns)

@@ -24,7 +24,7 @@ loop-again c =
     let v : ℕ = c .before .wide .result in
     let size : length (take 255 s) ≡ min 255 (length s) = length-take 255 s in
     let in-l : at .i < length (take 255 s) = omega arith in
-    let e : v ≡ getD (take 255 s) (at .i) 0 = c .before .wide .ensures .0 ∙ sym (getD-take 255 s (at .i) 0 (omega arith)) in
+    let e : v ≡ getD (take 255 s) (at .i) 0 = c .before .wide .ensures .same ∙ sym (getD-take 255 s (at .i) 0 (omega arith)) in
     ⊎-elim
     (λ w.
     let a : c .if1 .lengths ≡ set (at .lengths) (at .count) (at .bytes + v) = cc in
@@ -35,7 +35,7 @@ loop-again c =
     let a : c .if1 .lengths ≡ at .lengths = cc in
     let m : c .if1 .count ≡ at .count = cc in
     let z : c .if1 .bytes ≡ at .bytes + v = cc in
-    rw (a, m, z) (goes-on (at .inv) e in-l (w .0 .left) (c .before .wide .ensures .1)))
+    rw (a, m, z) (goes-on (at .inv) e in-l (w .0 .left) (c .before .wide .ensures .most)))
     (c .if1 .came)
 
 returns : tie.Need-returns Inv-loop μ-loop

@@ -22,31 +22,29 @@ returns-2 c =
 
 returns-3 : tie.Need-returns-3
 returns-3 c =
-    let byte = c .before .before in
-    let second = byte .before in
+    let second = c .before .before in
     let call = second .before .has-capture in
     let first = second .before .before in
     let a = first .before .before .args in
     sym
     (short-lacing (now (a .s)) (a .at) (first .if1 .left) (held (call .ensures) (second .if2 .left))
-    (omega (arith, c .before .wide .ensures .0, byte .byte-at .ensures)))
+    (omega (arith, c .before .count-of .ensures .same)))
 
 returns-4 : tie.Need-returns-4
 returns-4 c =
     let third = c .before in
-    let byte = third .before .before in
-    let second = byte .before in
+    let second = third .before .before in
     let call = second .before .has-capture in
     let first = second .before .before in
     let a = first .before .before .args in
-    ap (λ (n : ℕ). Ends (a .at + n)) (c .size-of .ensures .0)
+    ap (λ (n : ℕ). Ends (a .at + n)) (c .size-of .ensures .size)
     ∙ sym
     (ends-at (now (a .s)) (a .at) (first .if1 .left) (held (call .ensures) (second .if2 .left))
-    (omega (arith, third .before .wide .ensures .0, byte .byte-at .ensures)))
+    (omega (arith, third .before .count-of .ensures .same)))
 
 pub extent-in-spec : {M : Type 1} → statement M
 extent-in-spec =
     tie.close
     (tie.spec
-    returns (λ c κs. search needs) returns-2 (λ c κs. search needs) (λ c κs. search needs) (λ c. search needs)
+    returns (λ c κs. search needs) returns-2 (λ c κs. search needs) (λ c. search needs)
     returns-3 (λ c κs. search needs) (λ c. search needs) returns-4)

@@ -28,7 +28,7 @@ returns-3 c =
     let first = second .before .before in
     let call = first .before .has-capture in
     let page = now (first .before .before .before .args .page) in
-    ap (eqb (length page)) (c .size-of .ensures .0)
+    ap (eqb (length page)) (c .size-of .ensures .size)
     ∙ sym
     (size-decides page (held (call .ensures) (first .if1 .left))
     (equals (second .before .byte-at .ensures) (second .if2 .left)))

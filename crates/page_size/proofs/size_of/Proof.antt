@@ -4,34 +4,36 @@ use Prim.Native.Nat.{ℕ, _+_, _<_}
 use native.Mathlib.Omega.{arith}
 use borrow.Author.Needs.{needs}
 use denote.Ref.{now}
-use lib.ListN.{take, drop, getD, length-take}
+use lib.ListN.{take, drop, length-take}
 use lib.Seq.{take-all}
 use Rattle.octets.specs.Octets.{Bytes, total}
+use Rattle.page_layout.specs.Places.{countAt, lacingAt}
 use Rattle.page_layout.specs.Page.{countOf, lacingOf}
 use Rattle.page_size.specs.Size.{sizeOf}
 use Rattle.page_size.proofs.size_of.Statement.{statement}
 use Rattle.page_size.proofs.size_of.Tie as tie
 
 -- so all of them count
-all-count : (b : Bytes) → getD b 26 0 < 256 → take 255 (lacingOf b) ≡ lacingOf b
+all-count : (b : Bytes) → countOf b < 256 → take 255 (lacingOf b) ≡ lacingOf b
 unfolding lacingOf
-all-count b h = take-all 255 (lacingOf b) (omega (arith, length-take (countOf b) (drop 27 b)))
+all-count b h = take-all 255 (lacingOf b) (omega (arith, length-take (countOf b) (drop lacingAt b)))
 
 returns : tie.Need-returns
 unfolding sizeOf
 returns c =
-    let w = c .before .before in
-    let known = w .before .before in
-    let page = now (known .before .args .page) in (
-      ap₂ (λ (n m : ℕ). 27 + n + m) (w .wide .ensures .0 ∙ w .before .byte-at .ensures)
-          (c .sum-of .ensures .0 ∙ ap (λ (s : Bytes). total (take 255 s)) (c .before .lacing-of .ensures)
-          ∙ ap total (all-count page (known .shared-slice-known .given 26 .fits))),
-      omega arith,
-    )
+    let count = c .before .before in
+    let known = count .before in
+    let page = now (known .before .args .page) in
+    record {
+      size =
+          ap₂ (λ (n m : ℕ). lacingAt + n + m) (count .count-of .ensures .same)
+          (c .sum-of .ensures .sum ∙ ap (λ (s : Bytes). total (take 255 s)) (c .before .lacing-of .ensures)
+          ∙ ap total (all-count page (known .shared-slice-known .given countAt .fits)));
+      most = omega arith;
+    }
 
 pub size-of-spec : {M : Type 1} → statement M
 size-of-spec =
     tie.close
     (tie.spec
-    (λ c κs. search needs) (λ c κs. search needs) (λ c. search needs) (λ c κs. search needs) (λ c κs. search needs)
-    (λ c. search needs) returns)
+    (λ c κs. search needs) (λ c. search needs) (λ c κs. search needs) (λ c κs. search needs) (λ c. search needs) returns)

@@ -12,16 +12,16 @@ slice-aggregate-renew-checksum c = simp length-take (omega arith)
 
 returns : tie.Need-returns
 returns c =
-    let sealing = c .before .before in
-    let body = sealing .before .before .before .before in
+    let renewed = c .before .before in
+    let body = renewed .before .before .before .before in
     let lacing = body .before .before .before .before in
     let first = lacing .before .before .before .before in
     let made = first .before .before .before in
     let start = made .before .before .before .before in
     let a = start .args in
     put (a .h) (now (a .lacing)) (now (a .body)) (now (a .out)) (made .start-of .result) (first .copy-at .last .0)
-    (lacing .copy-at2 .last .0) (body .copy-at3 .last .0) (sealing .renew-checksum .last .0) (start .pre .1)
-    (made .start-of .ensures) (first .copy-at .ensures) (lacing .copy-at2 .ensures) (body .copy-at3 .ensures) (sealing .renew-checksum .ensures)
+    (lacing .copy-at2 .last .0) (body .copy-at3 .last .0) (renewed .renew-checksum .last .0) (start .pre .1)
+    (made .start-of .ensures) (first .copy-at .ensures) (lacing .copy-at2 .ensures) (body .copy-at3 .ensures) (renewed .renew-checksum .ensures)
 
 pub put-page-spec : {M : Type 1} → statement M
 put-page-spec =

@@ -5,16 +5,17 @@ use borrow.Author.Needs.{needs}
 use denote.Ref.{now}
 use Rattle.octets.specs.Octets.{copied}
 use Rattle.octets.specs.Numbers.{octets}
-use Rattle.page_writer.specs.Writing.{sealed}
+use Rattle.page_layout.specs.Places.{checksumAt}
+use Rattle.page_writer.specs.Writing.{withChecksum}
 use Rattle.page_writer.proofs.renew_checksum.Statement.{statement}
 use Rattle.page_writer.proofs.renew_checksum.Tie as tie
 
 returns : tie.Need-returns
-unfolding sealed
+unfolding withChecksum
 returns c =
     let page = now (c .before .before .before .before .before .before .before .args .page) in
     c .before .before .put32 .ensures
-    ∙ ap (λ (x : ℕ). copied page 22 (octets 4 x)) (c .before .before .before .before .page-checksum .ensures)
+    ∙ ap (λ (x : ℕ). copied page checksumAt (octets 4 x)) (c .before .before .before .before .page-checksum .ensures)
 
 pub renew-checksum-spec : {M : Type 1} → statement M
 renew-checksum-spec =

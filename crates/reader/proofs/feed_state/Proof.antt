@@ -7,7 +7,7 @@ returns : tie.Need-returns
 returns c =
     let call = c .before .before .before .before .before .before .before .before .before .before in
     let tally = call .before .before .before .before .before in
-    rw (← tally .tally-from .ensures, ← tally .before .before .core-from .ensures) (c .keep .ensures _ _ _ _ _ (call .feed-core .ensures))
+    rw (← tally .tally-from .ensures, ← tally .before .before .core-from .ensures) (c .keep .ensures _ _ (call .feed-core .ensures))
 
 pub feed-state-spec : {M : Type 1} → statement M
 feed-state-spec = tie.close (tie.spec (λ c κs. search needs) (λ c κs. search needs) (λ c κs. search needs) (λ c κs. search needs) (λ c. search needs) (λ c. search needs) (λ c. search needs) (λ c. search needs) returns)

@@ -1,13 +1,13 @@
 -- `reader::keep` meets its contract. Assumes nothing.
 use mathlib.Core.Path.{_≡_}
 use borrow.Author.Needs.{needs}
-use Rattle.feed_page.specs.declared.CoreFed.the-variants.{Accepted, Refused}
+use Rattle.stream.specs.declared.PageFed.the-variants.{Accepted, Refused}
 use Rattle.reader.proofs.States.{state-accepted, state-refused}
 use Rattle.reader.proofs.keep.Statement.{statement}
 use Rattle.reader.proofs.keep.Tie as tie
 
 returns : tie.Need-returns
-returns c f carry ends sizes kept is =
+returns c f after is =
     let arm = c .before .before in
     let core = arm .fed .given .0 .0 in
     let tally = arm .fed .given .0 .1 .0 in
@@ -16,7 +16,7 @@ returns c f carry ends sizes kept is =
     state-accepted core tally counts (rw q at is) (c .numbers-of .ensures)
 
 returns-2 : tie.Need-returns-2
-returns-2 c f carry ends sizes kept is =
+returns-2 c f after is =
     let arm = c .before in
     let why = arm .fed2 .given .0 .0 in
     let q : arm .before .before .args .fed ≡ Refused why = cc in

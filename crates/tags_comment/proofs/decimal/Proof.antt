@@ -18,7 +18,7 @@ abbrev μ-loop : tie.MeasureT-loop
 μ-loop d x₀ i₀ x i = length d - i
 
 loop-holds : tie.Need-loop-holds Inv-loop μ-loop
-loop-holds c = (refl, c .pre .0, omega arith, omega arith)
+loop-holds c = (refl, c .pre .digits, omega arith, omega arith)
 
 -- the byte is a digit
 low : (c : tie.After-shared-slice-known Inv-loop μ-loop) → 0x30 ≤ getD (now (c .before .before .before .args .d)) (c .before .before .loop .i) 0

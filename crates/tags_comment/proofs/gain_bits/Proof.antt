@@ -14,7 +14,10 @@ decimal-requires c κs =
     let start = c .before .before in
     let t = now (start .args .t) in
     let d = c .digits-of in
-    (ap allDigits (d .ensures) ∙ has-digits t (start .pre), few-digits t (now (d .result)) (is-short t (start .pre)) (d .ensures))
+    record {
+      digits = ap allDigits (d .ensures) ∙ has-digits t (start .pre);
+      few = few-digits t (now (d .result)) (is-short t (start .pre)) (d .ensures);
+    }
 
 -- the number that the digits gave, and the sign
 size : (c : tie.After-is-minus) → c .before .decimal .result ≡ sizeOf (now (c .before .before .before .before .args .t))

@@ -9,14 +9,14 @@ use Rattle.tags_comment.proofs.is_named.Tie as tie
 
 returns : tie.Need-returns
 returns c =
-    let place = c .before .sign-place in
+    let place = c .before .equals-place in
     let a = c .before .before .before .before .args in
     sym (nameless (now (a .c)) (place .result) (place .ensures) (now (a .name)) (c .if1 .taken))
 
 returns-2 : tie.Need-returns-2
 returns-2 c =
     let test = c .before .before in
-    let place = test .before .sign-place in
+    let place = test .before .equals-place in
     let a = test .before .before .before .before .args in
     c .same-name .ensures ∙ ap (sameName (now (a .name))) (c .before .part-of .ensures)
     ∙ sym (named (now (a .c)) (place .result) (place .ensures) (now (a .name)) (test .if1 .left))

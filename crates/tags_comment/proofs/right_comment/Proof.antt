@@ -18,14 +18,14 @@ text c = held (c .before .is-utf8 .ensures) (c .if1 .left)
 
 returns-2 : tie.Need-returns-2
 returns-2 c =
-    let place = c .before .sign-place in
+    let place = c .before .equals-place in
     let first = c .before .before in
     sym (without-name (now (first .before .before .before .args .c)) (place .result) (place .ensures) (text first) (c .if2 .taken))
 
 returns-3 : tie.Need-returns-3
 returns-3 c =
     let test = c .before .before in
-    let place = test .before .sign-place in
+    let place = test .before .equals-place in
     let first = test .before .before in
     c .all-within .ensures ∙ ap rightName (c .before .part-of .ensures)
     ∙ sym (name-decides (now (first .before .before .before .args .c)) (place .result) (place .ensures) (text first) (test .if2 .left))

@@ -36,7 +36,10 @@ decimal-requires : tie.Need-decimal-requires
 decimal-requires c κs =
     let d = c .before .before .before .digits-of in
     let first = c .before .before .before .before in
-    (digits c, few-digits (now (first .before .before .args .t)) (now (d .result)) (first .if1 .left) (d .ensures))
+    record {
+      digits = digits c;
+      few = few-digits (now (first .before .before .args .t)) (now (d .result)) (first .if1 .left) (d .ensures);
+    }
 
 returns-4 : tie.Need-returns-4
 returns-4 c =

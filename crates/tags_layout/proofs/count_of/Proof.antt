@@ -10,7 +10,7 @@ use Rattle.tags_layout.proofs.count_of.Tie as tie
 returns : tie.Need-returns
 returns c =
     let b = now (c .before .before .before .args .b) in
-    c .number322 .ensures ∙ ap (number 4 b) (omega (arith, c .before .number32 .ensures))
+    c .number32 .ensures ∙ ap (number 4 b) (omega (arith, c .before .vendor-size .ensures))
 
 pub count-of-spec : {M : Type 1} → statement M
 count-of-spec =

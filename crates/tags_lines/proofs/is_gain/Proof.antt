@@ -6,9 +6,9 @@ use Rattle.tags_lines.proofs.is_gain.Statement.{statement}
 use Rattle.tags_lines.proofs.is_gain.Tie as tie
 
 returns : tie.Need-returns
-returns c = ap₂ _||_ (c .before .before .is-named .ensures) (c .is-named2 .ensures)
+returns c = ap₂ _||_ (c .before .is-track-gain .ensures) (c .is-album-gain .ensures)
 
 pub is-gain-spec : {M : Type 1} → statement M
 is-gain-spec =
     tie.close
-    (tie.spec (λ c. search needs) (λ c κs. search needs) (λ c. search needs) (λ c κs. search needs) returns)
+    (tie.spec (λ c κs. search needs) (λ c κs. search needs) returns)

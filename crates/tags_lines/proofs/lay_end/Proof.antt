@@ -14,12 +14,12 @@ use Rattle.text_put.proofs.Putting.{put-known, laid-put, laid-known}
 use Rattle.text_gain.specs.Numbers.{decibelsEnd}
 use Rattle.text_gain.proofs.Texts.{length-end}
 use Rattle.tags_comment.specs.Gain.{toldGain}
-use Rattle.tags_lines.specs.Lines.{gainEnd}
+use Rattle.tags_lines.specs.Lines.{gainEnd, endMost}
 use Rattle.tags_lines.proofs.Parts.{end-plain, end-gain}
 use Rattle.tags_lines.proofs.lay_end.Statement.{statement}
 use Rattle.tags_lines.proofs.lay_end.Tie as tie
 
-short : {s t : Bytes} → s ≡ t → length s ≤ 35 → length t ≤ 35
+short : {s t : Bytes} → s ≡ t → length s ≤ endMost → length t ≤ endMost
 short same h = rw same at h
 
 returns : tie.Need-returns
@@ -27,7 +27,7 @@ returns c =
     let test = c .before .before .before .before .before in
     let s = c .before .before .before .before .before .before .before .before .before in
     let same = sym (end-plain (now (s .args .c)) (failed (test .before .is-gain .ensures) (test .if1 .taken))) in
-    (laid-known same (laid-put (omega (arith, s .pre)) (c .before .before .put-bytes .ensures)), short same (omega arith))
+    record { laid = laid-known same (laid-put (omega (arith, s .pre)) (c .before .before .put-bytes .ensures)); short = short same (omega arith) }
 
 returns-2 : tie.Need-returns-2
 returns-2 c =
@@ -36,9 +36,12 @@ returns-2 c =
     let s = c .before .before .before .before .before .before .before .before .before .before .before .before in
     let same = sym (end-gain (now (s .args .c)) (held (test .before .is-gain .ensures) (test .if1 .left)) ∙ ap gainEnd (sym told ∙ ap toldGain (c .before .before .before .before .before .g .given .1))) in
     let g = c .before .before .before .before .before .g .given .0 .0 in
-    let fits : SFits w16 g = record { sfits = c .before .before .before .before .known-told .given .0 .1 } in
-    let most = length-end g (fits .sfits) in
-    (laid-known same (laid-put (omega (arith, s .pre)) (put-known (ap decibelsEnd (toZ-ofZ fits)) (c .before .before .put-decibels .ensures))), short same most)
+    let narrow : SFits w16 g = record { sfits = c .before .before .before .before .known-told .given .0 .1 } in
+    let most = length-end g (narrow .sfits) in
+    record {
+      laid = laid-known same (laid-put (omega (arith, s .pre)) (put-known (ap decibelsEnd (toZ-ofZ narrow)) (c .before .before .put-decibels .ensures)));
+      short = short same most;
+    }
 
 returns-3 : tie.Need-returns-3
 returns-3 c =
@@ -46,7 +49,7 @@ returns-3 c =
     let test = c .before .before .before .before .before .before .before .before in
     let s = c .before .before .before .before .before .before .before .before .before .before .before .before in
     let same = sym (end-gain (now (s .args .c)) (held (test .before .is-gain .ensures) (test .if1 .left)) ∙ ap gainEnd (sym told ∙ ap toldGain (c .before .before .before .before .before .enum-told .given .1))) in
-    (laid-known same (laid-put (omega (arith, s .pre)) (c .before .before .put-bytes2 .ensures)), short same (omega arith))
+    record { laid = laid-known same (laid-put (omega (arith, s .pre)) (c .before .before .put-bytes2 .ensures)); short = short same (omega arith) }
 
 pub lay-end-spec : {M : Type 1} → statement M
 lay-end-spec =

@@ -11,7 +11,7 @@ returns : tie.Need-returns
 returns c =
     let s = c .before .before .before .before .before .before .before .before .before .before .before .before in
     let end = c .before .before .before .before .before .before .before .before .lay-end .ensures in
-    let made = front (end .0) (end .1) in
+    let made = front (end .laid) (end .short) in
     put-known (ap (textLine commentIs (now (s .args .c))) (c .before .before .before .part-of .ensures ∙ made)) (c .before .before .put-text .ensures)
 
 pub put-comment-spec : {M : Type 1} → statement M

@@ -29,7 +29,7 @@ returns-3 c =
     sym
     (no-characters (now (one .before .before .before .before .args .b)) (held (one .before .begins-with .ensures) (one .if1 .left))
     (held (two .before .fits-at .ensures) (two .if2 .left))
-    (failed (rw (c .before .before .part-of .ensures, size .number32 .ensures) at (c .before .is-utf8 .ensures)) (c .if3 .taken)))
+    (failed (rw (c .before .before .part-of .ensures, size .vendor-size .ensures) at (c .before .is-utf8 .ensures)) (c .if3 .taken)))
 
 returns-4 : tie.Need-returns-4
 returns-4 c =
@@ -40,7 +40,7 @@ returns-4 c =
     sym
     (no-count (now (one .before .before .before .before .args .b)) (held (one .before .begins-with .ensures) (one .if1 .left))
     (held (two .before .fits-at .ensures) (two .if2 .left))
-    (held (rw (three .before .before .part-of .ensures, size .number32 .ensures) at (three .before .is-utf8 .ensures)) (three .if3 .left))
+    (held (rw (three .before .before .part-of .ensures, size .vendor-size .ensures) at (three .before .is-utf8 .ensures)) (three .if3 .left))
     (omega (arith, c .before .first-comment .ensures)))
 
 returns-5 : tie.Need-returns-5
@@ -53,7 +53,7 @@ returns-5 c =
     ∙ sym
     (at-first (now (one .before .before .before .before .args .b)) (held (one .before .begins-with .ensures) (one .if1 .left))
     (held (two .before .fits-at .ensures) (two .if2 .left))
-    (held (rw (three .before .before .part-of .ensures, size .number32 .ensures) at (three .before .is-utf8 .ensures)) (three .if3 .left))
+    (held (rw (three .before .before .part-of .ensures, size .vendor-size .ensures) at (three .before .is-utf8 .ensures)) (three .if3 .left))
     (omega (arith, c .before .first-comment .ensures)))
 
 pub begin-spec : {M : Type 1} → statement M

@@ -15,37 +15,37 @@ returns c =
 returns-2 : tie.Need-returns-2
 returns-2 c =
     let album = c .before in
-    let track = album .before .before in
-    let first = track .before .before in
+    let track = album .before in
+    let first = track .before in
     let a = first .before .before .before .args in
     sym
-    (second-track (now (a .c)) (a .track) (a .album) (track .is-named .result) (album .is-named2 .result)
-    (held (first .before .right-comment .ensures) (first .if1 .left)) (track .is-named .ensures) (album .is-named2 .ensures) (c .if2 .taken))
+    (second-track (now (a .c)) (a .track) (a .album) (track .is-track-gain .result) (album .is-album-gain .result)
+    (held (first .before .right-comment .ensures) (first .if1 .left)) (track .is-track-gain .ensures) (album .is-album-gain .ensures) (c .if2 .taken))
 
 returns-3 : tie.Need-returns-3
 returns-3 c =
     let album = c .before .before in
-    let track = album .before .before in
-    let first = track .before .before in
+    let track = album .before in
+    let first = track .before in
     let a = first .before .before .before .args in
     sym
-    (second-album (now (a .c)) (a .track) (a .album) (track .is-named .result) (album .is-named2 .result)
-    (held (first .before .right-comment .ensures) (first .if1 .left)) (track .is-named .ensures) (album .is-named2 .ensures)
+    (second-album (now (a .c)) (a .track) (a .album) (track .is-track-gain .result) (album .is-album-gain .result)
+    (held (first .before .right-comment .ensures) (first .if1 .left)) (track .is-track-gain .ensures) (album .is-album-gain .ensures)
     (c .before .if2 .left) (c .if3 .taken))
 
 returns-4 : tie.Need-returns-4
 returns-4 c =
     let album = c .before .before in
-    let track = album .before .before in
-    let first = track .before .before in
+    let track = album .before in
+    let first = track .before in
     let a = first .before .before .before .args in
     sym
-    (next-comment (now (a .c)) (a .track) (a .album) (track .is-named .result) (album .is-named2 .result)
-    (held (first .before .right-comment .ensures) (first .if1 .left)) (track .is-named .ensures) (album .is-named2 .ensures)
+    (next-comment (now (a .c)) (a .track) (a .album) (track .is-track-gain .result) (album .is-album-gain .result)
+    (held (first .before .right-comment .ensures) (first .if1 .left)) (track .is-track-gain .ensures) (album .is-album-gain .ensures)
     (c .before .if2 .left) (c .if3 .left))
 
 pub judge-spec : {M : Type 1} → statement M
 judge-spec =
     tie.close
     (tie.spec
-    (λ c κs. search needs) returns (λ c. search needs) (λ c κs. search needs) (λ c. search needs) (λ c κs. search needs) returns-2 returns-3 returns-4)
+    (λ c κs. search needs) returns (λ c κs. search needs) (λ c κs. search needs) returns-2 returns-3 returns-4)

@@ -10,7 +10,7 @@ use Rattle.octets.specs.Octets.{Bytes, total, copied}
 use Rattle.octets.proofs.Copying.{length-copied}
 use Rattle.tags_reader.specs.Packet.{textBytes, commentsBytes}
 use Rattle.tags_writer.specs.Writing.{cutBy}
-use Rattle.tags_writer.proofs.Laying.{all-copied, comment-fits, comment-length, rest-sum, comments-copied}
+use Rattle.tags_writer.proofs.Laying.{all-copied, comment-inside, comment-length, rest-sum, comments-copied}
 use Rattle.tags_writer.proofs.put_comments.Statement.{statement}
 use Rattle.tags_writer.proofs.put_comments.Tie as tie
 
@@ -24,7 +24,7 @@ abbrev μ-loop : tie.MeasureT-loop
 μ-loop out₀ start text lengths at₀ from₀ i₀ out at from i = length lengths - i
 
 loop-holds : tie.Need-loop-holds Inv-loop μ-loop
-loop-holds c = let sum = c .before .before .before .pre .0 in (refl, omega arith, omega arith, omega arith, omega arith, refl)
+loop-holds c = let sum = c .before .before .before .pre .sum in (refl, omega arith, omega arith, omega arith, omega arith, refl)
 
 -- what a turn takes from the text is inside it
 module _ (c : tie.In-loop Inv-loop μ-loop) where
@@ -38,7 +38,7 @@ module _ (c : tie.In-loop Inv-loop μ-loop) where
   n = getD lengths (c .before .loop .i) 0
 
   inside : n ≤ length text - c .before .loop .from
-  inside = let l = c .before .loop in comment-fits (l .out) text lengths (l .at) (l .from) (l .i) (c .loop-test .taken) (l .inv .1)
+  inside = let l = c .before .loop in comment-inside (l .out) text lengths (l .at) (l .from) (l .i) (c .loop-test .taken) (l .inv .1)
 
   sized : length (take n (drop (c .before .loop .from) text)) ≡ n
   sized = let l = c .before .loop in comment-length (l .out) text lengths (l .at) (l .from) (l .i) (c .loop-test .taken) (l .inv .1)
@@ -48,7 +48,7 @@ put-text-requires c κs =
     let turn = c .before .before .before in
     let start = turn .before .before .before .before .before in
     let size = ap length (c .part-of .ensures) ∙ sized turn in
-    (omega (arith, size, inside turn), omega (arith, size, inside turn, start .pre))
+    record { small = omega (arith, size, inside turn, start .pre .small); room = omega (arith, size, inside turn) }
 
 add-at : tie.Need-add-at Inv-loop μ-loop
 add-at c = let small = inside (c .before .before .before .before .before .before) in search needs

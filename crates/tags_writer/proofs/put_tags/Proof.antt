@@ -1,4 +1,4 @@
--- `tags_writer::put_tags` meets its contract: the copies stand one behind the other. Assumes nothing.
+-- `tags_writer::put_tags` meets its contract: the copies follow each other. Assumes nothing.
 use borrow.Author.Needs.{needs}
 use denote.Ref.{now}
 use Rattle.tags_writer.proofs.Laying.{packet-copied}
@@ -13,8 +13,8 @@ returns c =
     let first = second .before .before .before .before in
     let start = first .before .before .before .before .before .before .before in
     let a = start .args in
-    packet-copied (now (a .vendor)) (now (a .text)) (now (a .lengths)) (start .pre .0) (now (a .out)) (first .copy-at .last .0)
-    (second .put-text .last .0) (third .put32 .last .0) (fourth .put-comments .last .0) (start .pre .1 .1)
+    packet-copied (now (a .vendor)) (now (a .text)) (now (a .lengths)) (start .pre .sum) (now (a .out)) (first .copy-at .last .0)
+    (second .put-text .last .0) (third .put32 .last .0) (fourth .put-comments .last .0) (start .pre .room)
     (first .copy-at .ensures) (second .put-text .ensures) (third .put32 .ensures) (fourth .put-comments .ensures)
 
 pub put-tags-spec : {M : Type 1} → statement M

@@ -16,7 +16,7 @@ returns c =
     let a = start .args in
     second .copy-at .ensures
     ∙ ap (λ (d : Bytes). copied d (a .at + 4) (now (a .t))) (first .put32 .ensures)
-    ∙ text-copied (now (a .out)) (a .at) (now (a .t)) (start .pre .0)
+    ∙ text-copied (now (a .out)) (a .at) (now (a .t)) (start .pre .room)
 
 pub put-text-spec : {M : Type 1} → statement M
 put-text-spec =

@@ -2,13 +2,14 @@
 use mathlib.Core.Path.{_≡_}
 use mathlib.Core.Bool.{true}
 use mathlib.Core.List.{List}
-use Prim.Native.Nat.{ℕ, _+_, _*_, _≤_}
+use Prim.Native.Nat.{ℕ, _≤_}
+use native.Mathlib.Omega.{arith}
 use borrow.Author.Needs.{needs}
 use denote.Ref.{now}
-use lib.ListN.{length}
 use Rattle.octets.specs.Octets.{Bytes}
 use Rattle.octets.proofs.Tests.{failed, held}
-use Rattle.tags_writer.specs.Code.{rightFields}
+use Rattle.limits.specs.Limits.{packetMax}
+use Rattle.tags_writer.specs.Code.{packetSize, rightFields}
 use Rattle.tags_writer.proofs.Taking.{sums-right, size-right, refused-fields, refused-room, wrote-packet}
 use Rattle.tags_writer.proofs.write_tags.Statement.{statement}
 use Rattle.tags_writer.proofs.write_tags.Tie as tie
@@ -32,36 +33,43 @@ module _ (c : tie.Else1) where
   right : rightFields vendor text lengths ≡ true
   right = held (c .before .right-fields .ensures) (c .if1 .left)
 
-  small : 16 + length vendor + length text + 4 * length lengths ≤ 61440
+  small : packetSize vendor text lengths ≤ packetMax
   small = size-right vendor text lengths right .1
 
-add-size-2 : tie.Need-add-size-2
-add-size-2 c = let most = small c in search needs
-
-add-size-3 : tie.Need-add-size-3
-add-size-3 c = let most = small c in search needs
+packet-size-requires : tie.Need-packet-size-requires
+packet-size-requires c κs = let most = small c in search needs
 
 returns-2 : tie.Need-returns-2
 returns-2 c =
-    let a = c .before .before .before .before .before .before .before .args in
-    refused-room (now (a .vendor)) (now (a .text)) (now (a .lengths)) (now (a .out)) (right (c .before)) (c .if2 .taken)
+    let first = c .before .before in
+    let a = first .before .before .before .before .before .before .args in
+    refused-room (now (a .vendor)) (now (a .text)) (now (a .lengths)) (now (a .out)) (right first)
+    (omega (arith, c .before .packet-size .ensures, c .if2 .taken))
 
 put-tags-requires : tie.Need-put-tags-requires
 put-tags-requires c κs =
     let two = c .before in
-    let a = two .before .before .before .before .before .before .before .args in
-    (sums-right (now (a .vendor)) (now (a .text)) (now (a .lengths)) (right (two .before)), (small (two .before), two .if2 .left))
+    let first = two .before .before in
+    let a = first .before .before .before .before .before .before .args in
+    record {
+      sum = sums-right (now (a .vendor)) (now (a .text)) (now (a .lengths)) (right first);
+      small = small first;
+      room = omega (arith, two .before .packet-size .ensures, two .if2 .left);
+    }
 
 returns-3 : tie.Need-returns-3
 returns-3 c =
     let call = c .before .before in
     let two = call .before .before in
-    let a = two .before .before .before .before .before .before .before .args in
-    wrote-packet (now (a .vendor)) (now (a .text)) (now (a .lengths)) (now (a .out)) (call .put-tags .last .1 .1 .1 .0) (right (two .before))
-    (two .if2 .left) (call .put-tags .ensures)
+    let first = two .before .before in
+    let a = first .before .before .before .before .before .before .args in
+    let size = two .before .packet-size in
+    rw (size .ensures)
+    (wrote-packet (now (a .vendor)) (now (a .text)) (now (a .lengths)) (now (a .out)) (call .put-tags .last .1 .1 .1 .0) (right first)
+    (omega (arith, size .ensures, two .if2 .left)) (call .put-tags .ensures))
 
 pub write-tags-spec : {M : Type 1} → statement M
 write-tags-spec =
     tie.close
     (tie.spec
-    (λ c κs. search needs) returns (λ c. search needs) add-size-2 (λ c. search needs) add-size-3 returns-2 put-tags-requires (λ c. search needs) returns-3)
+    (λ c κs. search needs) returns packet-size-requires returns-2 put-tags-requires (λ c. search needs) returns-3)

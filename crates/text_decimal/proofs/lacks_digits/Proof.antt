@@ -22,7 +22,7 @@ returns c =
 returns-2 : tie.Need-returns-2
 returns-2 c =
     let a = c .before .before .before .before .args in
-    c .is-short2 .ensures ∙ ap (λ (n : ℕ). ltb (a .len) (a .at + n)) (omega (arith, c .before .digits-of .ensures .0))
+    c .is-short2 .ensures ∙ ap (λ (n : ℕ). ltb (a .len) (a .at + n)) (omega (arith, c .before .digits-of .ensures .digits))
 
 pub lacks-digits-spec : {M : Type 1} → statement M
 lacks-digits-spec =

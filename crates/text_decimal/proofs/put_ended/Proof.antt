@@ -1,4 +1,4 @@
--- `text_decimal::put_ended` meets its contract: three digits and the byte in one word, or a store right behind the digits.
+-- `text_decimal::put_ended` meets its contract: three digits and the byte in one word, or a store right after the digits.
 -- Assumes nothing.
 use mathlib.Core.Path.{refl, sym, ap, _∙_}
 use Prim.Native.Nat.{_+_, _≤_}

@@ -24,7 +24,7 @@ put-four-requires c κs =
     let test = c .before in
     let a = test .before .before .before .args in
     let fits = ltb-false (length (now (a .out))) (a .at + 4) (sym (test .before .is-short .ensures) ∙ test .if1 .left) in
-    (omega arith, omega arith)
+    omega arith
 
 returns-2 : tie.Need-returns-2
 returns-2 c =

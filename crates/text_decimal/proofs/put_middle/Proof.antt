@@ -1,4 +1,4 @@
--- `text_decimal::put_middle` meets its contract: the last four digits stand behind the others. Assumes nothing.
+-- `text_decimal::put_middle` meets its contract: the last four digits stand after the others. Assumes nothing.
 use native.Mathlib.Omega.{arith}
 use borrow.Author.Needs.{needs}
 use mathlib.Core.Path.{refl}
@@ -9,10 +9,10 @@ use Rattle.text_decimal.proofs.put_middle.Statement.{statement}
 use Rattle.text_decimal.proofs.put_middle.Tie as tie
 
 put-short-requires-2 : tie.Need-put-short-requires-2
-put-short-requires-2 c κs = let x = c .before .before .before .args .x in (omega arith, omega (arith, length-fours x (omega arith)))
+put-short-requires-2 c κs = let x = c .before .before .before .args .x in omega (arith, length-fours x (omega arith))
 
 put-four-requires : tie.Need-put-four-requires
-put-four-requires c κs = let x = c .before .before .before .before .before .before .before .args .x in (omega arith, omega (arith, length-fours x (omega arith)))
+put-four-requires c κs = let x = c .before .before .before .before .before .before .before .args .x in omega (arith, length-fours x (omega arith))
 
 add-result : tie.Need-add-result
 add-result c = let x = c .before .before .before .before .before .before .before .before .before .before .args .x in omega (arith, length-fours x (omega arith))

@@ -51,7 +51,7 @@ put-four-requires : tie.Need-put-four-requires
 put-four-requires c κs =
     let x = c .before .before .before .before .before .args .x in
     let size = ap length (decimal-four x (omega arith) (omega arith)) in
-    (omega arith, omega (arith, length-lowest 4 x))
+    omega (arith, length-lowest 4 x)
 
 returns-4 : tie.Need-returns-4
 returns-4 c =

@@ -1,4 +1,4 @@
--- `text_decimal::put_upper` meets its contract: the last eight digits stand behind the others. Assumes nothing.
+-- `text_decimal::put_upper` meets its contract: the last eight digits stand after the others. Assumes nothing.
 use native.Mathlib.Omega.{arith}
 use borrow.Author.Needs.{needs}
 use mathlib.Core.Path.{refl}
@@ -9,10 +9,10 @@ use Rattle.text_decimal.proofs.put_upper.Statement.{statement}
 use Rattle.text_decimal.proofs.put_upper.Tie as tie
 
 put-short-requires : tie.Need-put-short-requires
-put-short-requires c κs = let x = c .before .before .before .args .x in (omega arith, omega (arith, length-eights x (omega arith)))
+put-short-requires c κs = let x = c .before .before .before .args .x in omega (arith, length-eights x (omega arith))
 
 put-eight-requires : tie.Need-put-eight-requires
-put-eight-requires c κs = let x = c .before .before .before .before .before .before .before .args .x in (omega arith, omega (arith, length-eights x (omega arith)))
+put-eight-requires c κs = let x = c .before .before .before .before .before .before .before .args .x in omega (arith, length-eights x (omega arith))
 
 add-result : tie.Need-add-result
 add-result c = let x = c .before .before .before .before .before .before .before .before .before .before .args .x in omega (arith, length-eights x (omega arith))

@@ -9,7 +9,7 @@ returns : tie.Need-returns
 returns c =
     let start = c .before in
     let byte = c .wide in
-    three-right (start .args .x) (start .args .b) (byte .result) (start .pre .0) (start .pre .1) (byte .ensures .0) (omega (arith, byte .ensures .1))
+    three-right (start .args .x) (start .args .b) (byte .result) (start .pre .least) (start .pre .below) (byte .ensures .same) (omega (arith, byte .ensures .most))
 
 pub three-digits-spec : {M : Type 1} → statement M
 three-digits-spec =

@@ -1,4 +1,4 @@
--- `text_gain::lay_decibels` meets its contract: five parts one behind the other. Assumes nothing.
+-- `text_gain::lay_decibels` meets its contract: five parts one after the other. Assumes nothing.
 use mathlib.Core.Path.{_≡_, ap, _∙_}
 use borrow.Author.Needs.{needs}
 use denote.Ref.{now}
@@ -12,7 +12,7 @@ use Rattle.text_gain.proofs.lay_decibels.Tie as tie
 
 -- the size
 sized : (c : tie.After-size-of) → c .size-of .result ≡ natAbs (c .before .before .args .g)
-sized c = c .size-of .ensures .0 ∙ ap natAbs (toZ-ofZ (c .before .before .fits .g))
+sized c = c .size-of .ensures .same ∙ ap natAbs (toZ-ofZ (c .before .before .fits .g))
 
 -- the sign stands
 signed : (c : tie.After-lay-sign)
@@ -26,7 +26,7 @@ lay-eight-requires c κs =
     let sign = whole .before .before .before .before in
     let size = sign .before .before in
     let s = size .before .before in
-    room-rest (now (s .args .out)) (s .args .at) (s .args .g) (size .size-of .result) (sized size) (size .size-of .ensures .1) (signed sign) (s .pre)
+    room-rest (now (s .args .out)) (s .args .at) (s .args .g) (size .size-of .result) (sized size) (size .size-of .ensures .most) (signed sign) (s .pre)
     (whole .put-decimal .ensures) (point .put-bytes .ensures)
 
 returns : tie.Need-returns
@@ -38,7 +38,7 @@ returns c =
     let sign = whole .before .before .before .before in
     let size = sign .before .before in
     let s = size .before .before in
-    laid-decibels (now (s .args .out)) (s .args .at) (s .args .g) (size .size-of .result) (sized size) (size .size-of .ensures .1) (signed sign) (s .pre)
+    laid-decibels (now (s .args .out)) (s .args .at) (s .args .g) (size .size-of .result) (sized size) (size .size-of .ensures .most) (signed sign) (s .pre)
     (whole .put-decimal .ensures) (point .put-bytes .ensures) (rest .lay-eight .ensures) (end .put-bytes2 .ensures)
 
 pub lay-decibels-spec : {M : Type 1} → statement M

@@ -1,4 +1,4 @@
--- `text_gain::lay_signed` meets its contract: the digits behind the sign. Assumes nothing.
+-- `text_gain::lay_signed` meets its contract: the digits after the sign. Assumes nothing.
 use mathlib.Core.Path.{_≡_, ap, _∙_}
 use borrow.Author.Needs.{needs}
 use denote.Ref.{now}
@@ -16,13 +16,13 @@ signed c = same-sign (toZ-ofZ (c .before .before .before .fits .g)) (c .lay-sign
 
 -- the size
 sized : (c : tie.After-size-of) → c .size-of .result ≡ natAbs (c .before .before .before .before .before .before .before .args .g)
-sized c = c .size-of .ensures .0 ∙ ap natAbs (toZ-ofZ (c .before .before .before .before .before .before .before .fits .g))
+sized c = c .size-of .ensures .same ∙ ap natAbs (toZ-ofZ (c .before .before .before .before .before .before .before .fits .g))
 
 returns : tie.Need-returns
 returns c =
     let size = c .before .before .before in
     let s = c .before .before .before .before .before .before .before .before .before .before in
-    laid-signed (now (s .args .out)) 0 (s .args .g) (size .size-of .result) (sized size) (size .size-of .ensures .1)
+    laid-signed (now (s .args .out)) 0 (s .args .g) (size .size-of .result) (sized size) (size .size-of .ensures .most)
     (signed (c .before .before .before .before .before .before .before)) (s .pre) (c .before .before .put-decimal .ensures)
 
 pub lay-signed-spec : {M : Type 1} → statement M

@@ -25,7 +25,7 @@ lead-bits-requires c κs =
     let found = c .before .before in
     let a = found .before .before .before .args in
     let right = is-right (now (a .s)) (a .at) (found .character-at .result) (found .before .if1 .left) (found .character-at .ensures) (c .before .if2 .left) in
-    (right .1, omega arith)
+    record { length = right .1; some = omega arith }
 
 number-with-requires : tie.Need-number-with-requires
 number-with-requires c κs =

@@ -21,14 +21,14 @@ returns c =
     let at = c .before .before .before .before .loop in
     let l = now (c .before .before .before .before .before .before .args .lacing) in
     let v = c .before .wide .result in
-    rw (at .inv .0, next l (at .i) v (omega arith) (c .before .wide .ensures .0)) (sym (piece-ends (drop (at .i + 1) l) (at .i) (at .bytes) v (c .if1 .taken)))
+    rw (at .inv .0, next l (at .i) v (omega arith) (c .before .wide .ensures .same)) (sym (piece-ends (drop (at .i + 1) l) (at .i) (at .bytes) v (c .if1 .taken)))
 
 loop-again : tie.Need-loop-again Inv-loop μ-loop
 loop-again c =
     let at = c .before .before .before .before .loop in
     let l = now (c .before .before .before .before .before .before .args .lacing) in
     let v = c .before .wide .result in
-    (rw (at .inv .0, next l (at .i) v (omega arith) (c .before .wide .ensures .0)) (piece-goes-on (drop (at .i + 1) l) (at .i) (at .bytes) v (c .if1 .left)), omega arith, omega arith)
+    (rw (at .inv .0, next l (at .i) v (omega arith) (c .before .wide .ensures .same)) (piece-goes-on (drop (at .i + 1) l) (at .i) (at .bytes) v (c .if1 .left)), omega arith, omega arith)
 
 returns-2 : tie.Need-returns-2 Inv-loop μ-loop
 returns-2 c =

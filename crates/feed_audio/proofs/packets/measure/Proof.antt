@@ -21,23 +21,23 @@ loop-holds : tie.Need-loop-holds Inv-loop μ-loop
 loop-holds c = record { tells = refl; adds = c .before .before .before .pre .adds; small = omega arith; few = omega arith; within = omega arith; room = omega arith; size = refl }
 
 add-bytes : tie.Need-add-bytes Inv-loop μ-loop
-add-bytes c = omega (arith, fits (c .before .before .before .loop .inv) (c .wide .ensures .0) (omega arith))
+add-bytes c = omega (arith, fits (c .before .before .before .loop .inv) (c .wide .ensures .same) (omega arith))
 
 -- the piece that ends here lies in the body
 add-end : tie.Need-add-end Inv-loop μ-loop
-add-end c = omega (arith, fits (c .before .before .before .before .loop .inv) (c .before .wide .ensures .0) (omega arith))
+add-end c = omega (arith, fits (c .before .before .before .before .loop .inv) (c .before .wide .ensures .same) (omega arith))
 
 part-read-packet-quick-start : tie.Need-part-read-packet-quick-start Inv-loop μ-loop
-part-read-packet-quick-start c = omega (arith, fits (c .before .before .before .before .loop .inv) (c .before .wide .ensures .0) (omega arith))
+part-read-packet-quick-start c = omega (arith, fits (c .before .before .before .before .loop .inv) (c .before .wide .ensures .same) (omega arith))
 
 part-read-packet-quick-end : tie.Need-part-read-packet-quick-end Inv-loop μ-loop
-part-read-packet-quick-end c = omega (arith, fits (c .before .before .before .before .loop .inv) (c .before .wide .ensures .0) (omega arith))
+part-read-packet-quick-end c = omega (arith, fits (c .before .before .before .before .loop .inv) (c .before .wide .ensures .same) (omega arith))
 
 returns : tie.Need-returns Inv-loop μ-loop
 returns c =
     let read = c .before .before .before in
     let at = read .before .before .before .before .before .before .loop in
-    refused (at .inv) (read .before .before .before .wide .ensures .0) (omega arith) (read .before .before .if1 .taken) _
+    refused (at .inv) (read .before .before .before .wide .ensures .same) (omega arith) (read .before .before .if1 .taken) _
     (read-as (read .read-packet-quick .ensures) (c .before .why .given .1))
 
 add-sum : tie.Need-add-sum Inv-loop μ-loop
@@ -48,11 +48,11 @@ add-sum c =
 loop-again : tie.Need-loop-again Inv-loop μ-loop
 loop-again c =
     let at = c .before .before .before .before .before .before .before .before .before .loop in
-    ends (at .inv) (c .before .before .before .before .before .before .wide .ensures .0) (omega arith) (c .before .before .before .before .before .if1 .taken)
+    ends (at .inv) (c .before .before .before .before .before .before .wide .ensures .same) (omega arith) (c .before .before .before .before .before .if1 .taken)
     (read-as (c .before .before .before .read-packet-quick .ensures) (c .before .s .given .1)) (omega arith)
 
 loop-again-2 : tie.Need-loop-again-2 Inv-loop μ-loop
-loop-again-2 c = goes-on (c .before .before .before .before .loop .inv) (c .before .wide .ensures .0) (omega arith) (c .if1 .left)
+loop-again-2 c = goes-on (c .before .before .before .before .loop .inv) (c .before .wide .ensures .same) (omega arith) (c .if1 .left)
 
 returns-2 : tie.Need-returns-2 Inv-loop μ-loop
 returns-2 c =

@@ -12,11 +12,11 @@ use Rattle.feed_audio.proofs.times.list_packets.Statement.{statement}
 use Rattle.feed_audio.proofs.times.list_packets.Tie as tie
 
 abbrev Inv-loop : tie.InvT-loop
-Inv-loop lens n from skip last g ends₀ sizes₀ kept₀ at₀ left₀ i₀ ends sizes kept at left i =
-    Listing skip last g (entries skip last g from (take n lens)) (take n lens) n ends₀ sizes₀ kept₀ ends sizes kept at left i
+Inv-loop lens n from skip last g ends₀ lengths₀ kept₀ at₀ left₀ i₀ ends lengths kept at left i =
+    Listing skip last g (entries skip last g from (take n lens)) (take n lens) n ends₀ lengths₀ kept₀ ends lengths kept at left i
 
 abbrev μ-loop : tie.MeasureT-loop
-μ-loop lens n from skip last g ends₀ sizes₀ kept₀ at₀ left₀ i₀ ends sizes kept at left i = n - i
+μ-loop lens n from skip last g ends₀ lengths₀ kept₀ at₀ left₀ i₀ ends lengths kept at left i = n - i
 
 loop-holds : tie.Need-loop-holds Inv-loop μ-loop
 loop-holds c = begins _ _ _ _ _ _ _ _ _ (c .before .before .before .before .pre .lens) (c .before .before .before .before .pre .fits)
@@ -36,7 +36,7 @@ loop-again c =
     let st = in-n .before .before .before .before .before .before in
     let e = sym (getD-take (st .args .n) (now (st .args .lens)) (at .i) 0 (in-n .loop-test .taken)) in
     rw (c .skip-after .ensures, c .before .kept .ensures, c .before .before .wide .ensures)
-    (lists (at .inv) (in-n .loop-test .taken) e (st .pre .ends) (st .pre .sizes) (st .pre .kept))
+    (lists (at .inv) (in-n .loop-test .taken) e (st .pre .ends) (st .pre .lengths) (st .pre .kept))
 
 pub list-packets-spec : {M : Type 1} → statement M
 list-packets-spec =

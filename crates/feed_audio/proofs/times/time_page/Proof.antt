@@ -17,7 +17,7 @@ returns c =
 -- the page is judged as the rules judge it
 judges : (c : tie.After-judge)
     → toldJudged (c .judge .result) ≡ judgedAs (c .before .before .before .before .before .before .before .before .before .before .before .before .before .before .args .core) (c .before .before .before .before .before .before .before .before .before .before .before .before .before .before .args .h) (c .before .before .count .given .0 .1 .0)
-judges c = rw (c .before .before .before .before .before .before .before .before .before .is-last .ensures) at (c .judge .ensures)
+judges c = rw (c .before .before .before .before .before .before .before .before .before .is-last-page .ensures) at (c .judge .ensures)
 
 returns-2 : tie.Need-returns-2
 returns-2 c =

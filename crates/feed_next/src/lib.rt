@@ -1,0 +1,46 @@
+// What follows an accepted page: the core that expects the next one, and the record of a page that lists nothing.
+ghost use mathlib.Core.Path.{_≡_};
+ghost use Rattle.stream.specs.Feed.{noCounts};
+ghost use Rattle.feed_next.specs.Next.{coreAfter};
+use granule::Position;
+use page_layout::PageHeader;
+use stream::Core;
+use stream::Counts;
+use stream::Pending;
+use stream::Phase;
+
+// The core after a page with the fields `h`: its serial, and the sequence number that is then due.
+pub fn next_core(
+    h: PageHeader,
+    phase: Phase,
+    pending: Pending,
+    position: Position,
+    streams: u8,
+    preskip: u16,
+) -> Core
+    ensures { λ r. ⌜ r ≡ coreAfter h phase pending position streams preskip ⌝ }
+{
+    Core {
+        phase,
+        pending,
+        position,
+        serial: h.serial,
+        next: std::num::wrapping_add_u32(h.sequence, 1),
+        streams,
+        preskip,
+    }
+}
+
+// The record of a page that lists nothing.
+pub fn no_counts() -> Counts
+    ensures { λ r. ⌜ r ≡ noCounts ⌝ }
+{
+    Counts {
+        packets: 0,
+        samples: 0,
+        kept: 0,
+        skipped: 0,
+        trimmed: 0,
+        hole: 0,
+    }
+}

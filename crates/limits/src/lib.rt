@@ -1,0 +1,7 @@
+// The bounds of the rules. No code: whoever asks for room or measures a packet compares with these.
+
+// The most bytes that a packet may have.
+pub const PACKET_MAX: usize = 61440;
+
+// The most packets that complete on a page, and so the places that each list of a feeding must have.
+pub const LIST_MAX: usize = 255;
