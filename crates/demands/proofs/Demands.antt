@@ -2,11 +2,13 @@
 use Rattle.page_crc.specs.Crc.{pageCrc}
 use Rattle.page_writer.proofs.RoundTrip as pageWriter
 use Rattle.head_writer.proofs.RoundTrip as headWriter
-use Rattle.tags_reader.proofs.Together.{parts-together}
 use Rattle.tags_writer.proofs.RoundTrip as tagsWriter
+use Rattle.tags_writer.proofs.Again as tagsAgain
 use Rattle.packet_reader.proofs.Legal.{legal-lengths}
 use Rattle.stream.proofs.Step.{refusal-keeps}
 use Rattle.stream.proofs.Lists.{accepted-shows}
+use Rattle.stream.proofs.CarryBuffer.{carry-exact, number-told}
+use Rattle.stream.proofs.Unskipped.{opened-unskipped}
 use Rattle.stream.proofs.Real.{readings-agree, opens-stream}
 use Rattle.stream.proofs.Theorem1.{stream-state}
 use Rattle.stream.proofs.Theorem3.{continued-says, demand-3}
@@ -15,7 +17,7 @@ use Rattle.demands.specs.Demands.{R, Demand1, Demand2, Demand3, Demands}
 use Rattle.demands.proofs.Cases.{cases-hold}
 
 pub demand-one : Demand1
-demand-one = record { refused = refusal-keeps R; accepted = accepted-shows R }
+demand-one = record { number = number-told R; carry = carry-exact R; refused = refusal-keeps R; accepted = accepted-shows R }
 
 pub demand-two : Demand2
 demand-two = record {
@@ -24,7 +26,7 @@ demand-two = record {
   heads = headWriter.reads-back;
   headsAgain = headWriter.writes-back;
   tags = tagsWriter.reads-back;
-  tagsAgain = parts-together;
+  tagsAgain = tagsAgain.writes-back;
   packets = legal-lengths;
   reading = readings-agree pageCrc;
   cases = cases-hold;
@@ -36,6 +38,7 @@ demand-three = record {
   opens = opens-stream pageCrc;
   second = demand-3 R;
   began = continued-says R;
+  opened = opened-unskipped R;
   counts = stream-counts R;
 }
 

@@ -79,7 +79,7 @@ fit h e =
 abbrev output : Page → Bytes
 output p = replicate (pageSize (p .lacing) (p .body)) 0
 
-reads : (p : Page) → fitsIn (p .header) ≡ true → writeTold (p .header) (p .lacing) (p .body) (output p) ≡ gives (pageSize (p .lacing) (p .body))
+pub reads : (p : Page) → fitsIn (p .header) ≡ true → writeTold (p .header) (p .lacing) (p .body) (output p) ≡ gives (pageSize (p .lacing) (p .body))
     → Reads (written p) p
 unfolding readings pageOf readPage written
 reads p fits told =
@@ -108,12 +108,12 @@ pub record Step (s : State) (b : Bytes) (t : State) (l : List Stamp) : Type 0 wh
   pub follows : after R s b ≡ t
   pub lists : stamped R s b ≡ l
 
-verdict-by : (s : State) (b : Bytes) (p : Page) → Reads b p → isEnded (expecting s p .phase) ≡ false
+pub verdict-by : (s : State) (b : Bytes) (p : Page) → Reads b p → isEnded (expecting s p .phase) ≡ false
     → verdict R s b ≡ firstOf (checksBy (expecting s p) p (seen (expecting s p) p))
 unfolding verdict checksOn firstOf
 verdict-by s b p k going = rw (k .page, k .isPage, k .isChecksummed, going) refl
 
-step : (s t : State) (l : List Stamp) (b : Bytes) (p : Page) → Reads b p → isEnded (expecting s p .phase) ≡ false
+pub step : (s t : State) (l : List Stamp) (b : Bytes) (p : Page) → Reads b p → isEnded (expecting s p .phase) ≡ false
     → firstOf (checksBy (expecting s p) p (seen (expecting s p) p)) ≡ none → nextOn R (expecting s p) p (seen (expecting s p) p) ≡ t
     → stampsOn R (expecting s p) p (seen (expecting s p) p) ≡ l → Step s b t l
 unfolding after stamped

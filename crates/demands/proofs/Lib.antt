@@ -4,3 +4,4 @@ pub mod Plan
 pub mod WrittenOctets
 pub mod Example
 pub mod Meets
+pub mod Instances

@@ -1,31 +1,26 @@
 -- The sixteen cases of document 01 ("Sixteen cases on paper"), one table under one statement: twelve packets, each read as an
--- audio packet of one stream, and four lists of pages where packets complete, told by the rules of positions and samples to a
--- reader just started with a pre-skip of 312. Assumes nothing.
-use Prim.Native.Nat.{ℕ, _+_, _-_}
+-- audio packet of one stream, and four lists of pages where packets complete, judged by the rules of positions and counted as
+-- the samples of a stream with a pre-skip of 312. Assumes nothing.
+use Prim.Native.Nat.{ℕ}
 use mathlib.Core.Path.{_≡_}
 use mathlib.Core.Bool.{Bool, true, false}
-use mathlib.Core.List.{List, [], _∷_, map}
+use mathlib.Core.List.{List, [], _∷_, _++_, map}
+use mathlib.Core.Option.{Option, none, some}
 use Rattle.octets.specs.Octets.{Bytes}
+use Rattle.refusal.specs.declared.Refusal.{Refusal}
+use Rattle.refusal.specs.Checks.{firstOf, orElse}
 use Rattle.refusal.specs.declared.Refusal.the-variants.{IllegalPacket, BelowPreSkip, GranuleTooSmall}
 use Rattle.refusal.specs.Numbers.{numberOf}
 use Rattle.refusal.specs.Told.{Told, gives, refuses}
 use Rattle.packet_reader.specs.Streams.{readPacket}
-use Rattle.granule.specs.declared.Position.{Position}
-use Rattle.granule.specs.declared.Position.the-variants.{Unset, At}
-use Rattle.granule.specs.declared.Placed.{Placed}
-use Rattle.granule.specs.Samples.{keptOf}
-use Rattle.granule.specs.Judging.{judge}
-
--- a page where packets complete: G, D and the last mark
-pub record Timed : Type 0 where
-  pub granule : ℕ
-  pub samples : ℕ
-  pub last : Bool
+use Rattle.granule.specs.declared.Position.the-variants.{Unset}
+use Rattle.granule.specs.Judging.{judgeChecks}
+use Rattle.stream.specs.Stream.{Mark, decoded, positionFrom, keptCount, trimmedCount}
 
 -- what a case gives, and what is to come of it
 pub data Given : Type 0 where
   packet : Bytes → Given
-  pages : List Timed → Given
+  pages : List Mark → Given
 
 pub data Outcome : Type 0 where
   samples : ℕ → Outcome  -- the length of a packet
@@ -42,37 +37,35 @@ abbrev samplesTold : Told ℕ → Outcome
 samplesTold (gives n) = samples n
 samplesTold (refuses n) = refused n
 
-abbrev plus : Outcome → ℕ → ℕ → Outcome
-plus (samples n) k t = samples n
-plus (counts kept trimmed) k t = counts (kept + k) (trimmed + t)
-plus (refused n) k t = refused n
+-- the first refusal among marks, a mark being what feeding judges of a page where packets complete; others came before
+unfoldable pub refusedFrom : List Mark → ℕ → List Mark → Option Refusal
+refusedFrom before preskip [] = none
+refusedFrom before preskip (m ∷ ms) =
+    orElse (firstOf (judgeChecks (positionFrom Unset before) preskip (m .granule) (decoded m) (m .last)))
+    (refusedFrom (before ++ (m ∷ [])) preskip ms)
 
--- one page judged; `later` is what comes of the pages after it
-abbrev counted : Told Placed → ℕ → Timed → Outcome → Outcome
-counted (gives w) skip p later = plus later (keptOf skip (p .last) (p .granule) (w .from) (p .samples)) (w .trimmed)
-counted (refuses n) skip p later = refused n
+-- that refusal, or the samples of the stream that these marks make, counted one by one
+abbrev countsBy : Option Refusal → ℕ → List Mark → Outcome
+countsBy none preskip ms = counts (keptCount preskip ms) (trimmedCount ms)
+countsBy (some r) preskip ms = refused (numberOf r)
 
--- `skip` samples are still to skip
-unfoldable pub countsOf : Position → ℕ → ℕ → List Timed → Outcome
-countsOf position preskip skip [] = counts 0 0
-countsOf position preskip skip (p ∷ ps) =
-    counted (judge position preskip (p .granule) (p .samples) (p .last)) skip p
-    (countsOf (At (p .granule)) preskip (skip - p .samples) ps)
+unfoldable pub countsOf : ℕ → List Mark → Outcome
+countsOf preskip ms = countsBy (refusedFrom [] preskip ms) preskip ms
 
 abbrev pub found : Given → Outcome
 found (packet b) = samplesTold (readPacket b 1)
-found (pages ps) = countsOf Unset 312 312 ps
+found (pages ms) = countsOf 312 ms
 
 -- ---- the table
 
 abbrev a-packet : Bytes → Outcome → Case
 a-packet b o = record { given = packet b; outcome = o }
 
-abbrev some-pages : List Timed → Outcome → Case
+abbrev some-pages : List Mark → Outcome → Case
 some-pages ps o = record { given = pages ps; outcome = o }
 
-abbrev page : ℕ → ℕ → Bool → Timed
-page g d last = record { granule = g; samples = d; last = last }
+abbrev page : ℕ → ℕ → Bool → Mark
+page g d last = record { granule = g; lengths = d ∷ []; last = last }
 
 abbrev pub cases : List Case
 cases =

@@ -55,9 +55,8 @@ fn feed_completing(
         (pageWith h (now (lacing .entry)) (now (body .entry)))) (toldPage r) (atExit carry ends lengths kept)) ⌝ }
 {
     let pending = core.pending;
-    let bytes = first.bytes;
     let skip = tally.skip;
-    carried::append(pending, bytes, body, carry);
+    carried::append(pending, first.bytes, body, carry);
     let mut lens = [0u32; 255];
     match times::time_page(core, h, first, lacing, body, carry, &mut lens) {
         Timed::Refused(why) => PageFed::Refused(why),

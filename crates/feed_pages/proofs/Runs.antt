@@ -36,7 +36,7 @@ module _ (R : Readings) (b : Bytes) (o : Octets b) where
       by later (stops why l) e = turn-stops R b o a m f e
 
 -- a run that has not begun
-begun : (r : Reader) (b : Bytes) (m : Lent) → Inside (started r) b m
+pub begun : (r : Reader) (b : Bytes) (m : Lent) → Inside (started r) b m
 begun r b m = record { bytes = omega arith; few = omega arith; ends = omega arith; lengths = omega arith; kept = omega arith }
 
 pub enough-turns : EnoughTurns

@@ -23,7 +23,7 @@ use Rattle.feed_pages.specs.Run.{isFull, past, whole, Reached, Why, Turn
 stops-goes : {A : Type 0} {why : Why} {m n : Lent} {a : Reached} → stops why m ≡ goes a n → A
 stops-goes e = let z : _≡_ {A = ℕ} 0 1 = cc in absurd (omega arith)
 
--- n places filled, and those that an accepted page filled fromPlace them
+-- n places filled, and those that an accepted page filled after them
 places : (n : ℕ) (l end : List ℕ) (field : Entry → ℕ) (es : List Entry) (old : List ℕ) → n ≤ length l → HasFirst old end (map field es)
     → n + length es ≤ length (take n l ++ end)
 places n l end field es old h is =
@@ -47,7 +47,7 @@ module _ (R : Readings) (b : Bytes) (o : Octets b) (a : Reached) (m : Lent) (fit
   pub shows : (e : ℕ) (t : Taken) → fed e .told ≡ gives t → Shows (past (a .packets) m) (fed e .lent) (fed e .entries) (t .counts)
   shows e t g = accepted-shows R (a .reader) (past (a .packets) m) (page e) t (octets-take (e - a .bytes) (drop (a .bytes) b) (octets-drop (a .bytes) b o)) g
 
-  after-goes : (e : ℕ) (t : Taken) → fed e .told ≡ gives t → endAt b (a .bytes) ≡ some e → {next : Reached} {n : Lent}
+  pub after-goes : (e : ℕ) (t : Taken) → fed e .told ≡ gives t → endAt b (a .bytes) ≡ some e → {next : Reached} {n : Lent}
       → after a e (gives t) (whole (a .packets) m (fed e .lent)) ≡ goes next n → Onward a b next n
   after-goes e t g h {next} {n} q =
       let there = end-inside b (a .bytes) e h in

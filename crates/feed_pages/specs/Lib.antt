@@ -1,3 +1,4 @@
 pub mod Run
+pub mod Feedings
 pub mod Answers
 pub mod Statements

@@ -11,7 +11,8 @@ use lib.Bits.{bitXor, xor-zero-r, xor-shifted}
 use lib.ListN.{length, take, drop, getD, length-take, length-drop, List·getD-append}
 use lib.Seq.{getD-take, getD-drop, getD-append-add}
 use Rattle.page_crc_tables.specs.Register.{bits, byte}
-use Rattle.page_crc_tables.specs.Table.{Right, entryIn, halfEntryIn}
+use Rattle.page_crc_tables.specs.Table.{Right, RightHalves, entryIn, halfEntryIn}
+use Rattle.page_crc_tables.specs.Statements.{WholeByHalves}
 use Rattle.page_crc_tables.proofs.Linear.{bits-lt, bits-xor, bits-add, byte-step}
 
 abbrev both : Bool → Bool → Bool
@@ -116,20 +117,24 @@ module _ (t : List ℕ) (size : length t ≡ 512) (ok : T (test 32 (highs ++ low
   low : (l : ℕ) → l < 16 → getD (highs ++ lows) (16 + l) 0 ≡ l * 2 ^ 24
   low l h = getD-append-add highs lows l 0 ∙ top-at (2 ^ 24) 16 l h
 
-  -- a byte is the xor of its halves
-  whole : (j b : ℕ) → j < 16 → b < 256 → halfEntryIn t j b ≡ bits (8 * suc j) (b * 2 ^ 24)
-  unfolding halfEntryIn
-  whole j b hj hb =
-      let h : ℕ = b / 16 in
-      let l : ℕ = b % 16 in
-      let hh : h < 16 = omega arith in
-      let hl : l < 16 = omega arith in
-      let top = half-at j h (h * 2 ^ 28) hj (omega arith) (omega arith) (high h hh) in
-      let rest = half-at j (16 + l) (l * 2 ^ 24) hj (omega arith) (omega arith) (low l hl) in
-      let sum : h * 2 ^ 28 + l * 2 ^ 24 ≡ b * 2 ^ 24 = omega arith in
-      rw (add-assoc (j * 32) 16 l, top, rest)
-      (sym (bits-xor (8 * suc j) (h * 2 ^ 28) (l * 2 ^ 24) (omega arith) (omega arith))
-      ∙ ap (bits (8 * suc j)) (xor-shifted h 28 (l * 2 ^ 24) (omega arith) ∙ sum))
+  pub halves-right : RightHalves t
+  halves-right = record {
+    high = λ j h hj hh. half-at j h (h * 2 ^ 28) hj (omega arith) (omega arith) (high h hh);
+    low = λ j l hj hl. rw (add-assoc (j * 32) 16 l) (half-at j (16 + l) (l * 2 ^ 24) hj (omega arith) (omega arith) (low l hl));
+  }
 
-  pub halves-right : Right (halfEntryIn t)
-  halves-right = record { entry = whole }
+-- a byte is the xor of its halves
+pub whole-by-halves : WholeByHalves
+unfolding halfEntryIn
+whole-by-halves t right = record { entry = whole }
+  where
+    whole : (j b : ℕ) → j < 16 → b < 256 → halfEntryIn t j b ≡ bits (8 * suc j) (b * 2 ^ 24)
+    whole j b hj hb =
+        let h : ℕ = b / 16 in
+        let l : ℕ = b % 16 in
+        let hh : h < 16 = omega arith in
+        let hl : l < 16 = omega arith in
+        let sum : h * 2 ^ 28 + l * 2 ^ 24 ≡ b * 2 ^ 24 = omega arith in
+        rw (right .high j h hj hh, right .low j l hj hl)
+        (sym (bits-xor (8 * suc j) (h * 2 ^ 28) (l * 2 ^ 24) (omega arith) (omega arith))
+        ∙ ap (bits (8 * suc j)) (xor-shifted h 28 (l * 2 ^ 24) (omega arith) ∙ sum))

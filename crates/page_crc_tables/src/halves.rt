@@ -1,6 +1,6 @@
 // Sixteen tables of half bytes, 32 entries each: an eighth of the tables of bytes, which is stored faster.
 // Entry j * 32 + h is the register h * 2^28 after j + 1 zero bytes, entry j * 32 + 16 + l the register l * 2^24.
-ghost use Rattle.page_crc_tables.specs.Table.{Right, halfEntryIn};
+ghost use Rattle.page_crc_tables.specs.Table.{RightHalves};
 
 const HALVES: [u32; 512] = [
     0,
@@ -518,7 +518,7 @@ const HALVES: [u32; 512] = [
 ];
 
 pub fn halves() -> [u32; 512]
-    ensures { λ t. ⌜ Right (halfEntryIn t) ⌝ }
+    ensures { λ t. ⌜ RightHalves t ⌝ }
 {
     HALVES
 }

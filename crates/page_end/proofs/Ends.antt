@@ -11,9 +11,8 @@ use Rattle.octets.specs.Pick.{pick}
 use Rattle.octets.specs.Octets.{Bytes}
 use Rattle.page_layout.specs.Places.{lacingAt}
 use Rattle.page_layout.specs.Page.{hasCapture, versionOf, countOf}
-use Rattle.page_size.specs.declared.Extent.the-variants.{Ends, Short, NoPage}
 use Rattle.page_size.specs.Size.{sizeOf, isOnePage}
-use Rattle.page_size.specs.Extent.{extentIn, pageExtent}
+use Rattle.page_size.specs.Extent.{endsAt, unknown, noStart, extentIn, pageExtent}
 use Rattle.page_end.specs.End.{endIn, endAt}
 use Rattle.page_end.specs.Statements.{Inside, EndInside, CutIsNoPage}
 
@@ -33,7 +32,7 @@ end-inside b at e h = by (ltb (length s) lacingAt) refl (not (hasCapture s)) (lt
     s = drop at b
 
     by : (x : Bool) → ltb (length s) lacingAt ≡ x → (y z w : Bool) → ltb (length b) (at + sizeOf s) ≡ w
-        → endIn (pick x Short (pick y NoPage (pick z Short (Ends (at + sizeOf s))))) (length b) ≡ some e → Inside at e (length b)
+        → endIn (pick x unknown (pick y noStart (pick z unknown (endsAt (at + sizeOf s))))) (length b) ≡ some e → Inside at e (length b)
     by true p y z w q k = none-some k
     by false p true z w q k =
         let same : length b ≡ e = cc in
@@ -71,7 +70,7 @@ cut-is-no-page b at h = by (ltb (length s) lacingAt) refl (not (hasCapture s)) (
     s = drop at b
 
     by : (x : Bool) → ltb (length s) lacingAt ≡ x → (y z : Bool) → ltb (length s) (lacingAt + countOf s) ≡ z → (w : Bool) → ltb (length b) (at + sizeOf s) ≡ w
-        → endIn (pick x Short (pick y NoPage (pick z Short (Ends (at + sizeOf s))))) (length b) ≡ none → isOnePage s ≡ false
+        → endIn (pick x unknown (pick y noStart (pick z unknown (endsAt (at + sizeOf s))))) (length b) ≡ none → isOnePage s ≡ false
     by true p y z r w q k = no-page b at (omega (arith, ltb-true (length s) lacingAt p, short-size b at))
     by false p true z r w q k = none-some (sym k)
     by false p false true r w q k = no-page b at (omega (arith, ltb-true (length s) (lacingAt + countOf s) r, short-size b at))

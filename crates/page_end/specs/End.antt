@@ -5,17 +5,15 @@ use lib.Dec.{ltb}
 use lib.ListN.{length}
 use Rattle.octets.specs.Pick.{pick}
 use Rattle.octets.specs.Octets.{Bytes}
-use Rattle.page_size.specs.declared.Extent.{Extent}
-use Rattle.page_size.specs.declared.Extent.the-variants.{Ends, Short, NoPage}
-use Rattle.page_size.specs.Extent.{pageExtent}
+use Rattle.page_size.specs.Extent.{Reach, endsAt, unknown, noStart, pageExtent}
 use Rattle.page_end.specs.declared.End.{End}
 use Rattle.page_end.specs.declared.End.the-variants.{At, Cut}
 
 -- none: it is not whole in the buffer, of n bytes; bytes that begin no page are taken as they stand, to the buffer's end
-abbrev pub endIn : Extent → ℕ → Option ℕ
-endIn (Ends e) n = pick (ltb n e) none (some e)
-endIn Short n = none
-endIn NoPage n = some n
+abbrev pub endIn : Reach → ℕ → Option ℕ
+endIn (endsAt e) n = pick (ltb n e) none (some e)
+endIn unknown n = none
+endIn noStart n = some n
 
 unfoldable pub endAt : Bytes → ℕ → Option ℕ
 endAt b at = endIn (pageExtent b at) (length b)

@@ -12,13 +12,24 @@ use Rattle.page_size.specs.declared.Extent.{Extent}
 use Rattle.page_size.specs.declared.Extent.the-variants.{Ends, Short, NoPage}
 use Rattle.page_size.specs.Size.{sizeOf}
 
--- s is what the buffer has from the place `at` on
-unfoldable pub extentIn : Bytes → ℕ → Extent
-extentIn s at =
-    pick (ltb (length s) lacingAt) Short
-    (pick (not (hasCapture s)) NoPage
-    (pick (ltb (length s) (lacingAt + countOf s)) Short
-    (Ends (at + sizeOf s))))
+-- where a page would end, in the buffer or past it; its header or its lacing values are not all there; or no page starts here
+pub data Reach : Type 0 where
+  endsAt : ℕ → Reach
+  unknown noStart : Reach
 
-unfoldable pub pageExtent : Bytes → ℕ → Extent
+-- s is what the buffer has from the place `at` on
+unfoldable pub extentIn : Bytes → ℕ → Reach
+extentIn s at =
+    pick (ltb (length s) lacingAt) unknown
+    (pick (not (hasCapture s)) noStart
+    (pick (ltb (length s) (lacingAt + countOf s)) unknown
+    (endsAt (at + sizeOf s))))
+
+unfoldable pub pageExtent : Bytes → ℕ → Reach
 pageExtent b at = extentIn (drop at b) at
+
+-- what the code's answer tells
+abbrev pub toldExtent : Extent → Reach
+toldExtent (Ends e) = endsAt e
+toldExtent Short = unknown
+toldExtent NoPage = noStart

@@ -2,7 +2,7 @@
 ghost use mathlib.Core.Path.{_≡_};
 ghost use Prim.Native.Nat.{_<_, _^_};
 ghost use Rattle.page_size.specs.Size.{Sized, isOnePage};
-ghost use Rattle.page_size.specs.Extent.{extentIn, pageExtent};
+ghost use Rattle.page_size.specs.Extent.{extentIn, pageExtent, toldExtent};
 use page_layout::LACING_AT;
 use page_layout::VERSION_AT;
 
@@ -24,7 +24,7 @@ fn size_of(page: &[u8]) -> usize
 // Where the page would end that s, the bytes from place `at` of a buffer on, begins with.
 fn extent_in(s: &[u8], at: usize) -> Extent
     requires { ⌜ at < 2 ^ 63 ⌝ }
-    ensures { λ r. ⌜ r ≡ extentIn (now (s .entry)) at ⌝ }
+    ensures { λ r. ⌜ toldExtent r ≡ extentIn (now (s .entry)) at ⌝ }
 {
     if s.len() < LACING_AT {
         return Extent::Short;
@@ -40,7 +40,7 @@ fn extent_in(s: &[u8], at: usize) -> Extent
 
 // Where the page that starts at place `at` of a buffer would end.
 pub fn page_extent(buffer: &[u8], at: usize) -> Extent
-    ensures { λ r. ⌜ r ≡ pageExtent (now (buffer .entry)) at ⌝ }
+    ensures { λ r. ⌜ toldExtent r ≡ pageExtent (now (buffer .entry)) at ⌝ }
 {
     if buffer.len() < at {
         return Extent::Short;

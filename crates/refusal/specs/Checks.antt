@@ -11,12 +11,12 @@ infix 68 _when_
 pub data Check : Type 0 where
   _when_ : Refusal → Bool → Check
 
--- the refusal of the first check whose test holds
-unfoldable pub firstOf : List Check → Option Refusal
-firstOf [] = none
-firstOf ((r when test) ∷ checks) = pick test (some r) (firstOf checks)
-
 -- the first answer, or else the second
 abbrev pub orElse : Option Refusal → Option Refusal → Option Refusal
 orElse none o = o
 orElse (some r) o = some r
+
+-- the refusal of the first check whose test holds
+unfoldable pub firstOf : List Check → Option Refusal
+firstOf [] = none
+firstOf ((r when test) ∷ checks) = pick test (some r) (firstOf checks)

@@ -61,12 +61,12 @@ Backed nothing c = Unit {0}
 Backed dropped c = Unit {0}
 Backed (held n h) c = h ≡ take n c
 
+either-length : (t : Bool) (x y : Bytes) → length x ≡ length y → length (pick t x y) ≡ length y
+either-length true x y e = e
+either-length false x y e = refl
+
 length-appended : (ph : Phase) (cr : Carried) (b c : Bytes) → length (appended ph cr b c) ≡ length c
-length-appended ph nothing b c = by (isComment ph)
-  where
-    by : (t : Bool) → length (pick t (copied c 0 b) c) ≡ length c
-    by true = length-copied c 0 b
-    by false = refl
+length-appended ph nothing b c = either-length (isComment ph) _ c (length-copied c 0 _)
 length-appended ph dropped b c = refl
 length-appended ph (held n h) b c = length-copied c n b
 
@@ -79,11 +79,7 @@ unfolding carryAfter
 length-carry none s p c = length-with-rest (newRest (s .carried) (whole p) (rest p))
     (appended (s .phase) (s .carried) (firstPiece (whole p) (rest p)) c)
     ∙ length-appended (s .phase) (s .carried) (firstPiece (whole p) (rest p)) c
-length-carry (some n) s p c = by (isLate n)
-  where
-    by : (t : Bool) → length (pick t (appended (s .phase) (s .carried) (firstPiece (whole p) (rest p)) c) c) ≡ length c
-    by true = length-appended (s .phase) (s .carried) (firstPiece (whole p) (rest p)) c
-    by false = refl
+length-carry (some n) s p c = either-length (isLate n) _ c (length-appended (s .phase) (s .carried) _ c)
 
 -- the carry buffer after an accepted page holds what the next state carries
 begun-is : (r : Option Bytes) (c : Bytes) → packetMax ≤ length c → RestFits r → carriedIn (pendingOf (begun r)) (withRest r c) ≡ begun r

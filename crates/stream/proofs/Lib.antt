@@ -18,3 +18,8 @@ pub mod MarkCounts
 pub mod Theorem4
 pub mod Real
 pub mod Lists
+pub mod SameAnswers
+pub mod Unskipped
+pub mod CarryBuffer
+pub mod Entering
+pub mod EnteringAll

@@ -27,7 +27,7 @@ use Rattle.stream.specs.Packets.{Seen, seen, isLong}
 use Rattle.limits.specs.Limits.{packetMax, listMax}
 use Rattle.stream.specs.Lent.{Lent, isShort}
 use Rattle.stream.specs.Rules.{checksOn, Stamp, stamps, stampsOn, nextOn, verdict, after, stamped}
-use Rattle.stream.specs.Feed.{Reader, carriedIn, view, coreOf, stampOf, entries, entriesOn, firstPiece, appended, isLate, carryAfter, Fed, fedBy, feed}
+use Rattle.stream.specs.Feed.{Reader, carriedIn, view, coreOf, stampOf, entries, entriesOn, firstPiece, appended, firstLate, isLate, carryAfter, Fed, fedBy, feed}
 use Rattle.stream.specs.Feedings.{readerBy, heldOf, tell}
 use Rattle.stream.specs.Statements.{Keeps, RefusalKeeps, CongruenceSame}
 use Rattle.stream.proofs.Pieces.{or-left, piece-fits, new-fits}
@@ -164,7 +164,7 @@ gives≢refuses {A} {a} {n} e = let z : _≡_ {A = ℕ} 0 1 = cc in omega arith
 
 below-12-stays : (n : Refusal) (t : State) (p : Page) (c : Bytes) → numberOf n < 12 → carryAfter (some n) t p c ≡ c
 unfolding carryAfter
-below-12-stays n t p c h = rw (lt-leb 12 (numberOf n) h)
+below-12-stays n t p c h = rw (lt-leb firstLate (numberOf n) (omega arith))
 
 keeps-by : (R : Readings) (r : Reader) (m : Lent) (b : Bytes) (n : ℕ) → packetMax ≤ length (m .carry) → (v : Option Refusal)
     → verdict R (view (r .core) (m .carry)) b ≡ v

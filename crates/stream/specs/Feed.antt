@@ -84,7 +84,10 @@ start = record {
   tally = record { skip = 0 };
 }
 
--- nothing is skipped: kept then means not trimmed
+-- opened part way nothing is skipped: kept then means not trimmed
+abbrev pub openTally : Head → Tally
+openTally h = record { skip = 0 }
+
 abbrev pub openAt : Head → Reader
 openAt h = record {
   core = record {
@@ -96,7 +99,7 @@ openAt h = record {
     streams = h .streams;
     preskip = h .preskip;
   };
-  tally = record { skip = 0 };
+  tally = openTally h;
 }
 
 abbrev pub openChecks : Head → List Check
@@ -178,9 +181,12 @@ abbrev pub withRest : Option Bytes → Bytes → Bytes
 withRest none carry = carry
 withRest (some b) carry = copied carry 0 b
 
--- the refusals under which the continuing piece is in the carry buffer: 12 to 19
+-- the refusals under which the continuing piece is in the carry buffer: from 12 on
+abbrev pub firstLate : ℕ
+firstLate = numberOf BadHead
+
 abbrev pub isLate : Refusal → Bool
-isLate n = leb (numberOf BadHead) (numberOf n)
+isLate n = leb firstLate (numberOf n)
 
 -- what the carry buffer holds at the end, s being the state that expected the page
 unfoldable pub carryAfter : Option Refusal → State → Page → Bytes → Bytes

@@ -9,3 +9,7 @@ pub mod Feed
 pub mod Stream
 pub mod Feedings
 pub mod Statements
+pub mod SameAnswers
+pub mod Unskipped
+pub mod CarryBuffer
+pub mod Entering

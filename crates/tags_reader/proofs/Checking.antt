@@ -11,10 +11,9 @@ use Rattle.octets.specs.Pick.{pick}
 use Rattle.octets.specs.Octets.{Bytes, begins}
 use Rattle.utf8.specs.Characters.{utf8}
 use Rattle.tags_comment.specs.Names.{isNamed}
-use Rattle.tags_rules.specs.declared.Gains.the-variants.{Wrong as WrongComment, Seen}
 use Rattle.tags_rules.specs.Right.{trackGain, albumGain, rightComments}
-use Rattle.tags_rules.specs.Code.{goesOn, judged, rightFrom}
-use Rattle.tags_rules.proofs.Counting.{and-false, right-from}
+use Rattle.tags_rules.specs.Code.{wrong, seen, goesOn, judged, rightFrom}
+use Rattle.tags_rules.proofs.Counting.{and-false, judging-tells}
 use Rattle.tags_layout.specs.Layout.{signature, partAt, nextPlace, fitsAt, bytesOf, allFit, textsFrom, placeAfter, vendorPlace, vendorPart, countOf, firstPlace, isLaidOut, tagsOf}
 use Rattle.tags_reader.specs.declared.Walk.{Walk}
 use Rattle.tags_reader.specs.declared.Walk.the-variants.{Wrong, At}
@@ -108,7 +107,7 @@ walk-is-tags b =
     let first : ℕ = firstPlace b in
     from-start b n (startsRight b) refl
     ∙ ap (λ (t : Bool). startsRight b && t)
-    (walk-decides b n first false false ∙ ap (λ (t : Bool). allFit b n first && t) (right-from (textsFrom b n first)))
+    (walk-decides b n first false false ∙ ap (λ (t : Bool). allFit b n first && t) (judging-tells (textsFrom b n first)))
     ∙ reordered (begins signature b) (fitsAt b vendorPlace) (utf8 (bytesOf b (vendorPart b))) (leb first (length b)) (allFit b n first)
     (rightComments (textsFrom b n first))
 
@@ -144,7 +143,7 @@ module _ (b : Bytes) (at : ℕ) (t a : Bool) where
   unfolding stepped judged
   step-place = by (fitsAt b at) (goesOn (bytesOf b (partAt b at)) t a)
     where
-      by : (f g : Bool) → (let w = pick f (onward b at (pick g (Seen (t || isNamed trackGain (bytesOf b (partAt b at))) (a || isNamed albumGain (bytesOf b (partAt b at)))) WrongComment)) Wrong in isRight w ≡ true → placeIn w ≡ nextPlace b at)
+      by : (f g : Bool) → (let w = pick f (onward b at (pick g (seen (t || isNamed trackGain (bytesOf b (partAt b at))) (a || isNamed albumGain (bytesOf b (partAt b at)))) wrong)) Wrong in isRight w ≡ true → placeIn w ≡ nextPlace b at)
       by true true e = refl
       by true false e = let no : _≡_ {A = ℕ} 0 1 = cc in absurd (omega arith)
       by false g e = let no : _≡_ {A = ℕ} 0 1 = cc in absurd (omega arith)

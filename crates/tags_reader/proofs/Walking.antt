@@ -8,7 +8,7 @@ use Rattle.octets.specs.Octets.{Bytes}
 use Rattle.octets.specs.Numbers.{number}
 use Rattle.tags_rules.specs.declared.Gains.{Gains}
 use Rattle.tags_rules.specs.declared.Gains.the-variants.{Wrong as WrongComment, Seen}
-use Rattle.tags_rules.specs.Code.{judged}
+use Rattle.tags_rules.specs.Code.{Judgement, judged, toldGains}
 use Rattle.tags_layout.specs.Layout.{fitsAt}
 use Rattle.tags_reader.specs.declared.Walk.{Walk}
 use Rattle.tags_reader.specs.declared.Walk.the-variants.{Wrong, At}
@@ -22,14 +22,14 @@ module _ (b : Bytes) (at : ℕ) (t a : Bool) where
   no-text e = rw e
 
   -- a text of n bytes, judged as g
-  module _ (n : ℕ) (g : Gains) (fits : fitsAt b at ≡ true) (size : n ≡ number 4 b at) (judge : g ≡ judged (take n (drop (at + 4) b)) t a) where
+  module _ (n : ℕ) (g : Gains) (fits : fitsAt b at ≡ true) (size : n ≡ number 4 b at) (judge : toldGains g ≡ judged (take n (drop (at + 4) b)) t a) where
     pub stops : g ≡ WrongComment → stepped b (At at t a) ≡ Wrong
     unfolding stepped
     stops e = rw (fits, ← size, ← judge, e)
 
     pub goes-on : (t' a' : Bool) → g ≡ Seen t' a' → stepped b (At at t a) ≡ At (at + 4 + n) t' a'
     unfolding stepped
-    goes-on t' a' e = rw (fits, ← size) (ap (λ (x : Gains). onward b at x) (sym judge ∙ e) ∙ ap (λ (k : ℕ). At (at + 4 + k) t' a') (sym size))
+    goes-on t' a' e = rw (fits, ← size) (ap (λ (x : Judgement). onward b at x) (sym judge ∙ ap toldGains e) ∙ ap (λ (k : ℕ). At (at + 4 + k) t' a') (sym size))
 
 -- ---- n steps
 

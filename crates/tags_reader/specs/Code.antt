@@ -7,17 +7,15 @@ use lib.ListN.{length}
 use Rattle.octets.specs.Pick.{pick}
 use Rattle.octets.specs.Octets.{Bytes, begins}
 use Rattle.utf8.specs.Characters.{utf8}
-use Rattle.tags_rules.specs.declared.Gains.{Gains}
-use Rattle.tags_rules.specs.declared.Gains.the-variants.{Wrong as WrongComment, Seen}
-use Rattle.tags_rules.specs.Code.{judged}
+use Rattle.tags_rules.specs.Code.{Judgement, wrong, seen, judged}
 use Rattle.tags_layout.specs.Layout.{signature, partAt, nextPlace, fitsAt, bytesOf, vendorPlace, vendorPart, firstPlace}
 use Rattle.tags_reader.specs.declared.Walk.{Walk}
 use Rattle.tags_reader.specs.declared.Walk.the-variants.{Wrong, At}
 
 -- one comment on
-abbrev pub onward : Bytes → ℕ → Gains → Walk
-onward b at WrongComment = Wrong
-onward b at (Seen track album) = At (nextPlace b at) track album
+abbrev pub onward : Bytes → ℕ → Judgement → Walk
+onward b at wrong = Wrong
+onward b at (seen track album) = At (nextPlace b at) track album
 
 unfoldable pub stepped : Bytes → Walk → Walk
 stepped b Wrong = Wrong

@@ -10,7 +10,8 @@ use Rattle.octets.specs.Pick.{pick}
 use Rattle.octets.specs.Octets.{Bytes}
 use Rattle.tags_comment.specs.Names.{rightComment, isNamed}
 use Rattle.tags_rules.specs.Right.{trackGain, albumGain, allRight, occurrences, rightComments}
-use Rattle.tags_rules.specs.Code.{goesOn, rightFrom}
+use Rattle.tags_rules.specs.Code.{wrong, seen, goesOn, judged, andLater, rightFrom}
+use Rattle.tags_rules.specs.Statements.{JudgingTells}
 
 pub and-false : (t : Bool) → t && false ≡ false
 and-false true = refl
@@ -41,25 +42,31 @@ at-most-one false false n = same (0 + n) (0 + (0 + n)) (omega arith)
 abbrev rightWith : Bool → Bool → List Bytes → Bool
 rightWith t a cs = allRight cs && (leb (one t + occurrences trackGain cs) 1 && leb (one a + occurrences albumGain cs) 1)
 
-seen : (t a : Bool) (cs : List Bytes) → rightFrom t a cs ≡ rightWith t a cs
-unfolding rightFrom allRight occurrences
-seen true true [] = refl
-seen true false [] = refl
-seen false true [] = refl
-seen false false [] = refl
-seen t a (c ∷ cs) =
+-- one comment off the front, by its test
+one-judged : (later : Bool → Bool → Bool) (g x y : Bool) → andLater later (pick g (seen x y) wrong) ≡ (g && later x y)
+one-judged later true x y = refl
+one-judged later false x y = refl
+
+right-with : (t a : Bool) (cs : List Bytes) → rightFrom t a cs ≡ rightWith t a cs
+unfolding rightFrom judged allRight occurrences
+right-with true true [] = refl
+right-with true false [] = refl
+right-with false true [] = refl
+right-with false false [] = refl
+right-with t a (c ∷ cs) =
     let x = isNamed trackGain c in
     let y = isNamed albumGain c in
-    ap (λ (r : Bool). goesOn c t a && r) (seen (t || x) (a || y) cs)
+    one-judged (λ u b. rightFrom u b cs) (goesOn c t a) (t || x) (a || y)
+    ∙ ap (λ (r : Bool). goesOn c t a && r) (right-with (t || x) (a || y) cs)
     ∙ sorted (rightComment c) (not (t && x)) (not (a && y)) (allRight cs)
     (leb (one (t || x) + occurrences trackGain cs) 1) (leb (one (a || y) + occurrences albumGain cs) 1)
     ∙ ap (λ (r : Bool). (rightComment c && allRight cs) && r)
     (ap₂ (λ (p q : Bool). p && q) (at-most-one t x (occurrences trackGain cs)) (at-most-one a y (occurrences albumGain cs)))
 
-pub right-from : (cs : List Bytes) → rightFrom false false cs ≡ rightComments cs
+pub judging-tells : JudgingTells
 unfolding rightComments
-right-from cs =
+judging-tells cs =
     let count : (n : ℕ) → leb (0 + n) 1 ≡ leb n 1 = λ n. same (0 + n) n (omega arith) in
-    seen false false cs
+    right-with false false cs
     ∙ ap (λ (r : Bool). allRight cs && r)
     (ap₂ (λ (p q : Bool). p && q) (count (occurrences trackGain cs)) (count (occurrences albumGain cs)))

@@ -2,7 +2,7 @@
 ghost use mathlib.Core.Path.{_≡_};
 ghost use Rattle.tags_comment.specs.Names.{isNamed};
 ghost use Rattle.tags_rules.specs.Right.{trackGain, albumGain};
-ghost use Rattle.tags_rules.specs.Code.{judged};
+ghost use Rattle.tags_rules.specs.Code.{judged, toldGains};
 
 // Which of the two gains were seen, up to a comment.
 pub enum Gains {
@@ -26,7 +26,7 @@ pub fn is_album_gain(c: &[u8]) -> bool
 
 // One comment more. Each gain may be in one comment only.
 pub fn judge(c: &[u8], track: bool, album: bool) -> Gains
-    ensures { λ r. ⌜ r ≡ judged (now (c .entry)) track album ⌝ }
+    ensures { λ r. ⌜ toldGains r ≡ judged (now (c .entry)) track album ⌝ }
 {
     if !tags_comment::right_comment(c) {
         return Gains::Wrong;

@@ -11,35 +11,22 @@ use lib.ListN.{length, getD, take, drop, drop-of-length-le}
 use lib.Seq.{drop-cons, drop-drop}
 use Rattle.octets.specs.Octets.{Bytes, total}
 use Rattle.tags_comment.specs.Names.{isNamed}
-use Rattle.tags_rules.specs.declared.Gains.the-variants.{Wrong, Seen}
 use Rattle.tags_rules.specs.Right.{trackGain, albumGain}
 use Rattle.tags_writer.specs.Writing.{cutBy}
-use Rattle.tags_rules.specs.Code.{goesOn, judged, rightFrom}
+use Rattle.tags_rules.specs.Code.{wrong, seen, judged, rightFrom}
 use Rattle.tags_writer.specs.Code.{rightLengths}
 use Rattle.tags_rules.proofs.Counting.{and-false}
 
 -- ---- a comment that was judged
 
 module _ (c : Bytes) (t a : Bool) (cs : List Bytes) where
-  pub wrong-decides : judged c t a ≡ Wrong → rightFrom t a (c ∷ cs) ≡ false
-  unfolding judged rightFrom
-  wrong-decides = by (goesOn c t a) refl
-    where
-      by : (g : Bool) → goesOn c t a ≡ g → judged c t a ≡ Wrong → rightFrom t a (c ∷ cs) ≡ false
-      by true e h = let seen = rw e at h in let no : _≡_ {A = ℕ} 0 1 = cc in absurd (omega arith)
-      by false e h = rw e
+  pub wrong-decides : judged c t a ≡ wrong → rightFrom t a (c ∷ cs) ≡ false
+  unfolding rightFrom
+  wrong-decides h = rw h
 
-  pub seen-decides : (t' a' : Bool) → judged c t a ≡ Seen t' a' → rightFrom t a (c ∷ cs) ≡ rightFrom t' a' cs
-  unfolding judged rightFrom
-  seen-decides t' a' = by (goesOn c t a) refl
-    where
-      by : (g : Bool) → goesOn c t a ≡ g → judged c t a ≡ Seen t' a' → rightFrom t a (c ∷ cs) ≡ rightFrom t' a' cs
-      by true e h =
-          let seen = rw e at h in
-          let track : (t || isNamed trackGain c) ≡ t' = cc in
-          let album : (a || isNamed albumGain c) ≡ a' = cc in
-          rw e (ap₂ (λ (x y : Bool). rightFrom x y cs) track album)
-      by false e h = let wrong = rw e at h in let no : _≡_ {A = ℕ} 0 1 = cc in absurd (omega arith)
+  pub seen-decides : (t' a' : Bool) → judged c t a ≡ seen t' a' → rightFrom t a (c ∷ cs) ≡ rightFrom t' a' cs
+  unfolding rightFrom
+  seen-decides t' a' h = rw h
 
 -- ---- one length off the list
 
@@ -67,12 +54,12 @@ module _ (text : Bytes) (ns : List ℕ) (at : ℕ) (t a : Bool) (i : ℕ) (more 
   pub too-long : length text - at < getD ns i 0 → restRight text ns at t a i ≡ false
   too-long h = rw (ne-eqb (total (drop i ns)) (length text - at) (λ e. omega (arith, sum-step text ns at i more)))
 
-  pub comment-wrong : judged (take (getD ns i 0) (drop at text)) t a ≡ Wrong → restRight text ns at t a i ≡ false
+  pub comment-wrong : judged (take (getD ns i 0) (drop at text)) t a ≡ wrong → restRight text ns at t a i ≡ false
   comment-wrong e =
       rw (cut-step text ns at i more, wrong-decides (take (getD ns i 0) (drop at text)) t a (cutBy (drop (i + 1) ns) (drop (at + getD ns i 0) text)) e)
       (and-false (eqb (total (drop i ns)) (length text - at)))
 
-  pub comment-right : (t' a' : Bool) → getD ns i 0 ≤ length text - at → judged (take (getD ns i 0) (drop at text)) t a ≡ Seen t' a'
+  pub comment-right : (t' a' : Bool) → getD ns i 0 ≤ length text - at → judged (take (getD ns i 0) (drop at text)) t a ≡ seen t' a'
       → restRight text ns at t a i ≡ restRight text ns (at + getD ns i 0) t' a' (i + 1)
   comment-right t' a' h e = ap₂ (λ (x y : Bool). x && y) sums (ap (rightFrom t a) (cut-step text ns at i more) ∙ seen-decides (take (getD ns i 0) (drop at text)) t a (cutBy (drop (i + 1) ns) (drop (at + getD ns i 0) text)) t' a' e)
     where

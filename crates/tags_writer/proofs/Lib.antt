@@ -2,3 +2,4 @@ pub mod Lengths
 pub mod Laying
 pub mod Taking
 pub mod RoundTrip
+pub mod Again

@@ -21,7 +21,7 @@ use Rattle.tags_reader.specs.Right.{rightTags}
 use Rattle.tags_writer.specs.Writing.{cutBy, given, packetOf, writeChecks, writeTold, writeOut, Wrote}
 use Rattle.tags_rules.specs.Code.{rightFrom}
 use Rattle.tags_writer.specs.Code.{rightLengths, packetSize, rightFields}
-use Rattle.tags_rules.proofs.Counting.{and-false, right-from}
+use Rattle.tags_rules.proofs.Counting.{and-false, judging-tells}
 use Rattle.tags_writer.proofs.Laying.{length-packet}
 
 module _ (vendor text : Bytes) (ns : List ℕ) where
@@ -55,7 +55,7 @@ module _ (vendor text : Bytes) (ns : List ℕ) where
     where
       by : (t : Bool) → sums ≡ t
           → t && rightFrom false false (cutBy ns text) ≡ t && (leb (length (packetOf vendor text ns)) packetMax && rightComments (cutBy ns text))
-      by true p = rw (le-leb (length (packetOf vendor text ns)) packetMax (omega (arith, packet-size p))) (right-from (cutBy ns text))
+      by true p = rw (le-leb (length (packetOf vendor text ns)) packetMax (omega (arith, packet-size p))) (judging-tells (cutBy ns text))
       by false p = refl
 
   -- ---- what follows from it

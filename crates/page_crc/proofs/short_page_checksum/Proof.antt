@@ -4,6 +4,7 @@ use native.Mathlib.Omega.{arith}
 use borrow.Author.Needs.{needs}
 use lib.ListN.{length-take}
 use denote.Ref.{now}
+use Rattle.page_crc_tables.proofs.Entries.{whole-by-halves}
 use Rattle.page_crc.proofs.Page.{parts, page-sliced-right}
 use Rattle.page_crc.proofs.short_page_checksum.Statement.{statement}
 use Rattle.page_crc.proofs.short_page_checksum.Tie as tie
@@ -17,7 +18,7 @@ returns c =
     let known = made .before in
     parts _ (now (known .before .args .page)) (ends .before .least .ensures) (ends .least2 .ensures)
     (first .half-update .ensures) (second .half-update2 .ensures) (c .half-update3 .ensures)
-    ∙ page-sliced-right _ (made .halves .ensures) _ (record { below = λ i. known .shared-slice-known .given i .fits })
+    ∙ page-sliced-right _ (whole-by-halves _ (made .halves .ensures)) _ (record { below = λ i. known .shared-slice-known .given i .fits })
 
 pub short-page-checksum-spec : {M : Type 1} → statement M
 short-page-checksum-spec =

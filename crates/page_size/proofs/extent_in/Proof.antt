@@ -5,7 +5,7 @@ use native.Mathlib.Omega.{arith}
 use borrow.Author.Needs.{needs}
 use denote.Ref.{now}
 use Rattle.octets.proofs.Tests.{failed, held}
-use Rattle.page_size.specs.declared.Extent.the-variants.{Ends}
+use Rattle.page_size.specs.Extent.{endsAt}
 use Rattle.page_size.proofs.Extents.{short-header, no-page, short-lacing, ends-at}
 use Rattle.page_size.proofs.extent_in.Statement.{statement}
 use Rattle.page_size.proofs.extent_in.Tie as tie
@@ -37,7 +37,7 @@ returns-4 c =
     let call = second .before .has-capture in
     let first = second .before .before in
     let a = first .before .before .args in
-    ap (λ (n : ℕ). Ends (a .at + n)) (c .size-of .ensures .size)
+    ap (λ (n : ℕ). endsAt (a .at + n)) (c .size-of .ensures .size)
     ∙ sym
     (ends-at (now (a .s)) (a .at) (first .if1 .left) (held (call .ensures) (second .if2 .left))
     (omega (arith, third .before .count-of .ensures .same)))

@@ -1,10 +1,11 @@
 -- `tags_writer::right_lengths` meets its contract. The loop's invariant: what is left decides. Assumes nothing.
-use mathlib.Core.Path.{_≡_, sym, _∙_}
+use mathlib.Core.Path.{_≡_, sym, ap, _∙_}
 use Prim.Native.Nat.{_-_, _≤_}
 use native.Mathlib.Omega.{arith}
 use borrow.Author.Needs.{needs}
 use denote.Ref.{now}
 use lib.ListN.{length}
+use Rattle.tags_rules.specs.Code.{toldGains}
 use Rattle.tags_writer.specs.Code.{rightLengths}
 use Rattle.tags_writer.proofs.Lengths.{restRight, too-long, comment-wrong, comment-right, lengths-begin, lengths-done}
 use Rattle.tags_writer.proofs.right_lengths.Statement.{statement}
@@ -38,7 +39,7 @@ returns-2 c =
     let judge = rw (part .part-of .ensures) at (c .before .before .judge .ensures) in
     sym
     (comment-wrong (now (a .text)) (now (a .lengths)) (l .at) (l .track) (l .album) (l .i) (turn .loop-test .taken)
-    (sym judge ∙ c .enum-told .given .1))
+    (sym judge ∙ ap toldGains (c .enum-told .given .1)))
     ∙ l .inv .0
 
 loop-again : tie.Need-loop-again Inv-loop μ-loop
@@ -52,7 +53,7 @@ loop-again c =
     let judge = rw (part .part-of .ensures) at (c .before .before .before .judge .ensures) in (
       sym
           (comment-right (now (a .text)) (now (a .lengths)) (l .at) (l .track) (l .album) (l .i) (turn .loop-test .taken) (got .0 .0) (got .0 .1 .0)
-          (small .if1 .left) (sym judge ∙ got .1))
+          (small .if1 .left) (sym judge ∙ ap toldGains (got .1)))
           ∙ l .inv .0,
       omega arith,
       omega arith,
