@@ -1,7 +1,7 @@
-/* The speed of embulgri_checksum beside slicing by 8 and by 16 in C, built in the same run. "C apart" is slicing
+/* The speed of embulgri_checksum and of slicing by 8 and by 16 in C, built in the same run. "C apart" is slicing
  * by 16 with one hint to the compiler.
  *
- * The pages stand one behind the other in a ring that stays in the cache, as a reader's buffer does, and each call
+ * The pages lie one after the other in a ring that stays in the cache, as a reader's buffer does, and each call
  * starts on the next page. The candidates take turns, and the best of several rounds counts, so that a busy machine is
  * fair to all.
  */
@@ -57,7 +57,7 @@ static inline uint32_t by_bytes(uint32_t c, const uint8_t *p, size_t n)
     return c;
 }
 
-/* What is left behind the last whole block. */
+/* What is left after the last whole block. */
 static inline uint32_t rest(uint32_t c, const uint8_t *p, size_t n)
 {
     for (; n >= 4; p += 4, n -= 4)
@@ -82,8 +82,8 @@ static uint32_t slicing_by_16(const uint8_t *p, size_t n)
     return rest(c, p, n);
 }
 
-/* The same with the lookups that do not wait for the register kept apart from those that do. gcc at -O2 puts them all
- * into one chain unless it is kept from it, and then takes about 1.7 times as long. */
+/* The same with the lookups that do not wait for the register kept apart from those that do. Without this, gcc at -O2
+ * puts them all into one chain, and the function takes about 1.7 times as long. */
 static uint32_t slicing_by_16_apart(const uint8_t *p, size_t n)
 {
     uint32_t c = 0;

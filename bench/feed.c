@@ -1,6 +1,6 @@
-/* The speed of embulgri_feed beside embulgri_checksum alone over the same pages, in the same run.
+/* The speed of embulgri_feed, and of embulgri_checksum alone over the same pages, in the same run.
  *
- * The audio pages of a recording stand one behind the other in memory that stays in the cache. A pass goes over all of
+ * The audio pages of a recording lie one after the other in memory that stays in the cache. A pass goes over all of
  * them once; before it feeds them, it takes the state that the headers left. The passes take turns; the best and the
  * median of several rounds are printed, as the load of the machine is not controlled.
  */

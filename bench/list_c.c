@@ -1,4 +1,4 @@
-/* The listing of an Ogg Opus stream in hand-written C, to time the program `list` beside.
+/* The listing of an Ogg Opus stream in hand-written C, to time with the program `list`.
  *
  * usage: list_c < FILE
  * One thread, no SIMD: large reads, the checksum sixteen bytes a step, a direct walk over the lacing values, numbers from
@@ -301,7 +301,7 @@ static size_t extent(const uint8_t *p, size_t n)
     return size;
 }
 
-/* Reads more behind the n bytes at p, which go to the front; how many there are then. */
+/* Reads more after the n bytes at p, which go to the front; how many there are then. */
 static size_t read_more(const uint8_t *p, size_t n)
 {
     memmove(in, p, n);

@@ -37,7 +37,7 @@ static void make_tables(void)
             table[k][b] = table[k - 1][b] << 8 ^ table[0][table[k - 1][b] >> 24];
 }
 
-/* Four bytes that stand k - 3 to k bytes before the end of a step. */
+/* Four bytes that lie k - 3 to k bytes before the end of a step. */
 static uint32_t four(int k, uint32_t w)
 {
     return table[k][w >> 24] ^ table[k - 1][w >> 16 & 255] ^ table[k - 2][w >> 8 & 255] ^ table[k - 3][w & 255];
@@ -98,7 +98,7 @@ static long padding(const uint8_t **p, const uint8_t *end)
     return -1;
 }
 
-/* Samples of the Opus packet at *at, 0 if it is illegal; *at goes behind it. */
+/* Samples of the Opus packet at *at, 0 if it is illegal; *at goes after it. */
 static uint32_t opus_packet(const uint8_t **at, const uint8_t *end, int delimited)
 {
     const uint8_t *p = *at;

@@ -1,4 +1,4 @@
-/* The listing of an Ogg Opus stream by libogg and libopus, as one would write it with them, to time `list` beside.
+/* The listing of an Ogg Opus stream by libogg and libopus, as one would write it with them, to time with `list`.
  *
  * usage: list_libogg < FILE
  * Prints what `list` prints of a good stream. It makes few checks: a page or packet that libogg or libopus does not take

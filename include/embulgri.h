@@ -66,7 +66,7 @@ uint32_t embulgri_head_read(const uint8_t *packet, size_t n, uint64_t fields[8],
 uint32_t embulgri_head_write(const uint64_t fields[8], const uint8_t mapping[255],
                              uint8_t *out, size_t out_n, uint64_t *written);
 
-/* Reads one comment header (RFC 7845, section 5.2). *count: the number of its comments. Bytes behind the last comment
+/* Reads one comment header (RFC 7845, section 5.2). *count: the number of its comments. Bytes after the last comment
  * are not looked at.
  *   14  the signature is wrong; a length, the count or a text passes the end of the packet; the vendor or a comment is
  *       not UTF-8 (RFC 3629); a comment's name, which is what precedes its first "=", has a byte outside 0x20 to 0x7D;
@@ -81,17 +81,17 @@ uint32_t embulgri_tags_vendor(const uint8_t *packet, size_t n, uint64_t part[2])
 
 /* Finds comment i of a comment header, the first being 0. part: where it starts in the packet, and its length in bytes.
  * Each call checks the whole packet. A listing needs it for comment 0 only: where a comment ends, the next one's length
- * stands in four bytes, least byte first, and its text follows.
+ * lies in four bytes, least byte first, and its text follows.
  *   14  embulgri_tags_read would refuse the packet
  *   20  not 14, and i is not below the number of comments
  *   0   neither; the two numbers are stored */
 uint32_t embulgri_tags_comment(const uint8_t *packet, size_t n, uint64_t i, uint64_t part[2]);
 
-/* Reads the gain in comment i of a comment header, the first being 0: the number behind its first "=", whatever its
+/* Reads the gain in comment i of a comment header, the first being 0: the number after its first "=", whatever its
  * name. *gain: its 16 bits, two's complement, as a number from 0 to 65535.
  *   14  embulgri_tags_read would refuse the packet
  *   20  not 14, and i is not below the number of comments
- *   21  neither, and the comment has no "=", or what is behind it is not an optional sign and digits, has no digit, has
+ *   21  neither, and the comment has no "=", or what is after it is not an optional sign and digits, has no digit, has
  *       more than 6 characters, or is not from -32768 to 32767
  *   0   none of these; the gain is stored */
 uint32_t embulgri_tags_gain(const uint8_t *packet, size_t n, uint64_t i, uint64_t *gain);
@@ -122,8 +122,8 @@ uint32_t embulgri_clock_add(float *reading, uint64_t *count, uint64_t length);
  *   4   the last granule position
  *   5   the serial, 6 the sequence number that is due, 7 the stream count, 8 the pre-skip, 9 the samples still to skip
  *   10 to 15  zeros
- * Of other numbers, one above 4 in place 0 means 4, one above 2 in places 1 and 3 means 2, those in places 5 to 9 count
- * modulo 2^32, 2^32, 2^8, 2^16 and 2^16, and places 10 to 15 are not looked at. */
+ * Of other numbers, one above 4 in place 0 means 4, and one above 2 in places 1 and 3 means 2. Those in places 5 to 9
+ * count modulo 2^32, 2^32, 2^8, 2^16 and 2^16. Places 10 to 15 are not looked at. */
 
 /* A reader that waits for the first page of a stream. It refuses nothing. */
 void embulgri_start(uint64_t state[16]);
@@ -135,13 +135,13 @@ void embulgri_start(uint64_t state[16]);
 uint32_t embulgri_open(const uint64_t fields[8], const uint8_t mapping[255], uint64_t state[16]);
 
 /* Feeds one page. ends, lengths and kept: for each packet that the page lists the position of its last sample, its
- * length in samples and how many of these are kept; places past the packets stay as they were. page_out, of this page
- * alone: packets listed, their samples, how many of these are kept, skipped and trimmed, and the hole before them; all
- * zero on a header page and where no packet completes. Samples are at 48 kHz.
+ * length in samples and how many of these are kept. Places past the packets stay as they were. page_out, of this page
+ * alone: packets listed, their samples, how many of these are kept, skipped and trimmed, and the hole before them. All
+ * are zero on a header page and where no packet completes. Samples are at 48 kHz.
  * carry: between two feedings it has to keep its first bytes, as many as number 2 of the state. The comment header is
  * there from place 0 once it is complete, until an unfinished audio packet is written over it. Under 12 to 19 the page's
- * first piece, if it continues a packet that is held or is one of the comment header, stands behind the held bytes;
- * under any other refusal the carry buffer is as it was.
+ * first piece, if it continues a packet that is held or is one of the comment header, lies after the held bytes.
+ * Under any other refusal the carry buffer is as it was.
  * The lowest number that holds is returned, but 19 and 18 before 17, and for each packet in turn 15 before 16:
  *   1   carry_n is below 61440, or ends_n, lengths_n or kept_n below 255
  *   2   a page marked last was accepted before

@@ -10,7 +10,7 @@ pub const CLOCK_RANGE: u32 = 30;
 /// The most samples that a count can hold.
 pub const MOST: u64 = i64::MAX.cast_unsigned();
 
-/// What lies before and behind a reading, and a count.
+/// What lies before and after a reading, and a count.
 const OLD_READINGS: [f32; 2] = [-1.5, 2.25];
 const OLD_COUNTS: [u64; 2] = [0xa5a5_0000_1111_5a5a, 0xa5a5_0000_2222_5a5a];
 

@@ -90,7 +90,7 @@ pub const COUNTS: &[Change<Clock>] = &[
 pub const WRONG_LENGTHS: &[Change<u64>] = &[
     change("zero", REFUSED, |_, length| *length = 0),
     change("5,880", REFUSED, |_, length| *length = 5880),
-    change("beside a right one", REFUSED, |random, length| {
+    change("next to a right one", REFUSED, |random, length| {
         *length = match random.one_in(2) {
             true => *length - 1,
             false => *length + 1,

@@ -76,7 +76,7 @@ pub const DAMAGES: &[Change<Vec<u8>>] = &[
     change("cut in the head", &[NOT_A_PAGE], |random, page| {
         page.truncate(random.below(HEAD))
     }),
-    change("cut behind the head", &[0, NOT_A_PAGE], |_, page| {
+    change("cut after the head", &[0, NOT_A_PAGE], |_, page| {
         page.truncate(HEAD)
     }),
     change("cut anywhere", &[NOT_A_PAGE], |random, page| {
@@ -105,7 +105,7 @@ pub const DAMAGES: &[Change<Vec<u8>>] = &[
         *page = random_bytes(random)
     }),
     change(
-        "random bytes behind the capture pattern and version 0",
+        "random bytes after the capture pattern and version 0",
         &[0, NOT_A_PAGE, WRONG_CHECKSUM],
         random_page,
     ),
@@ -150,7 +150,7 @@ fn exchange_lacing_values(random: &mut Random, page: &mut [u8]) {
     }
 }
 
-/// Cuts a page short of its end but behind the place of its checksum.
+/// Cuts a page short of its end but after the place of its checksum.
 fn cut_and_seal(random: &mut Random, page: &mut Vec<u8>) {
     page.truncate(random.within(CHECKSUM.end..=page.len() - 1));
     ogg::seal(page);

@@ -137,7 +137,7 @@ pub const EARLY_ENDS: &[Change<Case>] = &[
 
 /// The same for a reader that was opened part way.
 pub const ENDS_ON_NOTHING: &[Change<Case>] = &[change(
-    "an end with nothing to stand on",
+    "an end with no granule position before it",
     &[NO_POSITION],
     |_, case| case.page.flags |= LAST,
 )];

@@ -1,5 +1,5 @@
-//! Feeding calls of the library that watch all that they are lent, beside what the rules say that
-//! they leave.
+//! Feeding calls of the library that watch all that they are lent, and what the rules say that they
+//! leave.
 
 use crate::feeding::{self, Lent, LIST};
 use crate::ffi;
@@ -71,7 +71,7 @@ impl Memory {
     }
 }
 
-/// A reader of the library beside one by the rules.
+/// A reader of the library, and one by the rules.
 #[derive(Clone)]
 pub struct Feeder {
     library: Memory,
@@ -96,7 +96,7 @@ impl Feeder {
         feeder
     }
 
-    /// Starts both readers anew on the memory as it is.
+    /// Starts both readers again on the memory as it is.
     pub fn start(&mut self) {
         ffi::start(self.library.numbers_mut());
         *self.rules.numbers_mut() = Reader::started().numbers();

@@ -79,7 +79,7 @@ pub const FIELDS: &[Change<Case>] = &[
     change("the sequence before", &[OUT_OF_SEQUENCE], |_, case| {
         case.page.sequence = case.page.sequence.wrapping_sub(1)
     }),
-    change("the sequence behind", &[OUT_OF_SEQUENCE], |_, case| {
+    change("the sequence after", &[OUT_OF_SEQUENCE], |_, case| {
         case.page.sequence = case.page.sequence.wrapping_add(1)
     }),
     change(
@@ -152,7 +152,7 @@ pub const LONG_HELD: &[Change<Case>] = &[
     ),
 ];
 
-/// Puts a long packet on the page, behind the end of the one that it continues if there is room.
+/// Puts a long packet on the page, after the end of the one that it continues if there is room.
 fn put_long(random: &mut Random, case: &mut Case, length: usize, ends: bool) {
     let mut pieces = Vec::new();
     if case.is_continued() {

@@ -25,17 +25,17 @@ pub const FIRST_PAGE: &[Change<Case>] = &[
         |_, case| case.put(&[]),
     ),
     change(
-        "an empty packet behind the header",
+        "an empty packet after the header",
         &[HEADER_SHAPE],
         |_, case| case.page.lacing.push(0),
     ),
     change(
-        "a packet behind the header",
+        "a packet after the header",
         &[HEADER_SHAPE],
         |random, case| put_behind(random, case, true),
     ),
     change(
-        "an unfinished packet behind the header",
+        "an unfinished packet after the header",
         &[HEADER_SHAPE],
         |random, case| put_behind(random, case, false),
     ),
@@ -83,7 +83,7 @@ pub const COMMENT_PAGE: &[Change<Case>] = &[
         },
     ),
     change(
-        "an empty packet behind the comments",
+        "an empty packet after the comments",
         &[HEADER_SHAPE],
         |_, case| {
             complete(case);
@@ -91,7 +91,7 @@ pub const COMMENT_PAGE: &[Change<Case>] = &[
         },
     ),
     change(
-        "a packet behind the comments",
+        "a packet after the comments",
         &[HEADER_SHAPE],
         |random, case| {
             complete(case);
@@ -99,7 +99,7 @@ pub const COMMENT_PAGE: &[Change<Case>] = &[
         },
     ),
     change(
-        "an unfinished packet behind the comments",
+        "an unfinished packet after the comments",
         &[HEADER_SHAPE],
         |random, case| {
             complete(case);

@@ -150,7 +150,7 @@ pub const DAMAGES: &[Change<Vec<u8>>] = &[
         *packet = random.bytes(length)
     }),
     change(
-        "random bytes behind the signature and version 1",
+        "random bytes after the signature and version 1",
         ANY,
         random_header,
     ),

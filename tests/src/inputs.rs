@@ -44,7 +44,7 @@ pub fn page_bytes(random: &mut Random) -> Vec<u8> {
     ogg::encode(&page)
 }
 
-/// The bytes behind 0 to 15 others, so that they start at any alignment.
+/// The bytes after 0 to 15 others, so that they start at any alignment.
 pub fn shifted(random: &mut Random, bytes: &[u8]) -> (Vec<u8>, usize) {
     let start = random.below(16);
     let mut buffer = random.bytes(start);

@@ -1,4 +1,4 @@
-//! A fixed set of legal audio packets, of every code alone and beside every other.
+//! A fixed set of legal audio packets, of every code alone and next to every other.
 
 use crate::opus::{Code, Form, Packet, Padding};
 use crate::random::Random;
@@ -26,7 +26,7 @@ pub fn joined(packets: &[&Packet], random: &mut Random) -> Vec<u8> {
 }
 
 /// One packet of each code, with and without padding, of frames of these sizes. All of them have
-/// 960 samples, so that they can stand in one audio packet.
+/// 960 samples, so that they can be in one audio packet.
 pub fn one_of_each_code(sizes: [usize; 8]) -> [Packet; 7] {
     let first = sizes[0];
     [

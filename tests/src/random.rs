@@ -52,7 +52,7 @@ impl Random {
         bytes
     }
 
-    /// A field's value: often one of the two ends, as mistakes live there.
+    /// A field's value: often one of the two ends, as mistakes are often there.
     pub fn field(&mut self) -> u64 {
         match self.below(8) {
             0 => 0,

@@ -1,5 +1,5 @@
-//! A reader of a stream: what it knows between two pages, and the sixteen numbers that stand for it
-//! over the C interface. What it does with a page is in [`crate::feeding`].
+//! A reader of a stream: what it knows between two pages, and the sixteen numbers that represent
+//! it over the C interface. What it does with a page is in [`crate::feeding`].
 
 use crate::head::{Head, UNFIT_FIELDS};
 
@@ -86,7 +86,7 @@ impl Reader {
         matches!(self.phase, Phase::First | Phase::Comment)
     }
 
-    /// The reader that any sixteen numbers stand for: an unknown phase is Ended, an unknown
+    /// The reader that any sixteen numbers represent: an unknown phase is Ended, an unknown
     /// unfinished packet is dropped, an unknown position is a granule position, and a number counts
     /// modulo the width of its field.
     pub fn from_numbers(numbers: &[u64; NUMBERS]) -> Reader {

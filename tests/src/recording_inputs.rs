@@ -36,7 +36,7 @@ pub fn head_of_stream(random: &mut Random) -> Head {
     head
 }
 
-/// A right comment packet, sometimes with bytes behind.
+/// A right comment packet, sometimes with bytes after it.
 pub fn comment_packet(random: &mut Random) -> Vec<u8> {
     let mut bytes = encode(&tags(random));
     let length = match random.below(64) {

@@ -7,7 +7,7 @@ use crate::reader::Position;
 pub const SMALL_GRANULE: u32 = 17;
 /// The first page that completes a packet is marked last and its granule is below the pre-skip.
 pub const BELOW_PRE_SKIP: u32 = 18;
-/// A reader opened part way has no position to stand on.
+/// A reader opened part way has no position to count from.
 pub const NO_POSITION: u32 = 19;
 
 /// What is known of a page where an audio packet completes, and before it.

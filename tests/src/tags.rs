@@ -17,7 +17,7 @@ pub const BAD_GAIN: u32 = 21;
 pub const GAINS: [&str; 2] = ["R128_TRACK_GAIN", "R128_ALBUM_GAIN"];
 /// The length of the longest packet that is written.
 pub const LONGEST: usize = 61_440;
-/// The place of the vendor in a packet, behind the signature and its length.
+/// The place of the vendor in a packet, after the signature and its length.
 pub const VENDOR: usize = 12;
 
 /// A comment header.

@@ -42,7 +42,7 @@ pub const RIGHT_CHANGES: &[Change<Tags>] = &[
             put(random, &mut tags.comments, longer.clone().into_bytes())
         }
     }),
-    change("a gain behind another sign", RIGHT, |random, tags| {
+    change("a gain after another sign", RIGHT, |random, tags| {
         let name = *random.pick(&GAINS);
         for first in ["=", "a="] {
             put(
@@ -156,7 +156,7 @@ pub const DAMAGES: &[Change<Vec<u8>>] = &[
         packet[place] ^= random.within(1..=255) as u8
     }),
     change(
-        "a bit behind the vendor's length flipped",
+        "a bit after the vendor's length flipped",
         ANY,
         |random, packet| {
             let place = random.within(VENDOR..=packet.len() - 1);
@@ -189,7 +189,7 @@ pub const DAMAGES: &[Change<Vec<u8>>] = &[
         *packet = random.bytes(length)
     }),
     change(
-        "random bytes behind the signature",
+        "random bytes after the signature",
         ANY,
         |random, packet| {
             let length = random.within(8..=60);
@@ -202,7 +202,7 @@ pub const DAMAGES: &[Change<Vec<u8>>] = &[
     ),
 ];
 
-/// Values of a field of 32 bits beside a right one: its neighbours and those of 2^32.
+/// Values of a field of 32 bits close to a right one: its neighbours and those of 2^32.
 pub fn beside(right: u32) -> Vec<u32> {
     let mut values: Vec<u32> = (0..64).flat_map(|k| [k, u32::MAX - k]).collect();
     for bit in 0..32 {

@@ -4,7 +4,7 @@
 use crate::random::Random;
 use crate::tags::{Tags, GAINS};
 
-/// Characters where the length of their UTF-8 changes, and those beside the surrogates.
+/// Characters where the length of their UTF-8 changes, and those next to the surrogates.
 const ENDS: [char; 14] = [
     '\0',
     ' ',
@@ -22,7 +22,7 @@ const ENDS: [char; 14] = [
     '\u{10ffff}',
 ];
 
-/// Bytes that are no UTF-8, wherever whole characters stand before and behind them.
+/// Bytes that are no UTF-8, wherever whole characters are before and after them.
 pub const NO_UTF8: [&[u8]; 26] = [
     b"\x80",
     b"\xbf",

@@ -10,7 +10,7 @@ use std::fmt::Display;
 /// What the length written is before a call.
 const OLD_LENGTH: u64 = 0xa5a5_0000_9999_5a5a;
 
-/// The bytes watched before and behind an output.
+/// The bytes watched before and after an output.
 pub const BEFORE: usize = 16;
 pub const BEHIND: usize = 64;
 
@@ -66,7 +66,7 @@ impl Writable for JoinedTags {
     }
 }
 
-/// What a writer is given: an input, and an output of `room` bytes behind `before` others.
+/// What a writer is given: an input, and an output of `room` bytes after `before` others.
 pub struct Request<'a, T> {
     pub input: &'a T,
     pub before: usize,

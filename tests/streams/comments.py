@@ -8,7 +8,7 @@ import sys
 
 from listing import read
 
-# Characters that are not shown as they stand, by their numbers: the backslash, controls, those that cannot be seen or
+# Characters that are not shown as they are, by their numbers: the backslash, controls, those that cannot be seen or
 # that change the order of others, and private use.
 HIDDEN = ((0, 0x1f), (0x5c, 0x5c), (0x7f, 0x9f), (0xad, 0xad), (0x61c, 0x61c), (0x180e, 0x180e), (0x200b, 0x200f),
           (0x2028, 0x202e), (0x2060, 0x206f), (0xe000, 0xf8ff), (0xfeff, 0xfeff), (0xfff9, 0xfffb), (0xfffe, 0xffff),
@@ -33,7 +33,7 @@ def decibels(gain):
 
 
 def comment_line(comment):
-    """A comment; behind an R128 gain (RFC 7845, 5.2.1) stand its decibels."""
+    """A comment; after an R128 gain (RFC 7845, 5.2.1) come its decibels."""
     gain = re.fullmatch(rb'(?i:R128_(?:TRACK|ALBUM)_GAIN)=([+-]?[0-9]+)', comment)
     if gain and len(gain[1]) <= 6 and -32768 <= int(gain[1]) <= 32767:
         return f'comment {shown(comment)}\t{decibels(int(gain[1]))}'

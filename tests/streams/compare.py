@@ -1,5 +1,5 @@
 #!/usr/bin/env python3
-"""Holds `list` and `tags` to ffprobe, to opusinfo and to the listing beside this file, on Ogg Opus files.
+"""Holds `list` and `tags` to ffprobe, to opusinfo and to the listing in this directory, on Ogg Opus files.
 
 usage: tests/streams/compare.py [--without-ffprobe | --refused] NAME=DIRECTORY ..
 Takes every Ogg Opus file below each directory, told by its first bytes. Prints one line for each name, and each
@@ -131,7 +131,7 @@ def told_lines(reader):
 
 def warned(reader):
     """The warnings that opusinfo gives of a stream that the listing accepts: at each page whose granule position is ahead
-    of the samples decoded so far, as it is behind a hole, and at the end where more than the last packet is trimmed."""
+    of the samples decoded so far, as it is after a hole, and at the end where more than the last packet is trimmed."""
     first, last = reader.entries[0], reader.entries[-1]
     start = first.end - first.dur
     warnings = [f'WARNING: Sample count behind granule ({decoded}<{granule - start}) in stream 1'

@@ -53,7 +53,7 @@ def extent(data, at):
 
 
 def cut(data):
-    """The bytes of a stream page by page; what is no whole page comes last, as it stands."""
+    """The bytes of a stream page by page; what is no whole page comes last, as it is."""
     at, parts = 0, []
     while at < len(data):
         end = extent(data, at)

@@ -1,5 +1,5 @@
 //! Holds the old clock to Rust's own `f32`: on a run of the shortest packets until the reading
-//! stands still, on runs of any packets, and on random records and lengths.
+//! no longer changes, on runs of any packets, and on random records and lengths.
 
 use embulgri_tests::clock::{check_adding, Clock, CLOCK_RANGE, MOST};
 use embulgri_tests::clock_inputs::{right_length, COUNTS, READINGS, WRONG_LENGTHS};
@@ -74,7 +74,7 @@ fn a_reading_of_2_to_the_31_does_not_move_by_120s_whatever_the_count() {
             count,
         };
         for _ in 0..1_000 {
-            (_, clock) = check_adding(clock, 120, "a reading that stands still");
+            (_, clock) = check_adding(clock, 120, "a reading that does not change");
             assert_eq!(clock.reading, STILL);
         }
     }

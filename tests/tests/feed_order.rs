@@ -163,7 +163,7 @@ fn audio(last: u64, opened: bool) -> (Feeder, Draft) {
     (feeder, next)
 }
 
-/// The reader with a position to stand on.
+/// The reader with a position to count from.
 fn at(feeder: &Feeder, granule: u64) -> Feeder {
     let mut reader = feeder.reader();
     reader.position = Position::At(granule);

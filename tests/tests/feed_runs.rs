@@ -90,7 +90,7 @@ impl Run {
         told.is_ok()
     }
 
-    /// Changes bytes of the carry buffer: often behind the held ones, seldom among them.
+    /// Changes bytes of the carry buffer: often after the held ones, seldom among them.
     fn meddle(&mut self) {
         let held = match self.feeder.reader().unfinished {
             Unfinished::Held(held) => held as usize,

@@ -1,4 +1,4 @@
-//! Any sixteen numbers are a reader: holds feeding to the independent reader that they stand for by
+//! Any sixteen numbers are a reader: holds feeding to the independent reader that they represent by
 //! the stated rule, and opening part way to the rules of headers.
 
 use embulgri_tests::feed_calls::Feeder;

@@ -190,7 +190,7 @@ fn headers_cut_short_at_every_place_or_one_byte_too_long_are_refused() {
         let bytes = encode(&head);
         assert_eq!(check_head(&bytes, "whole"), Ok(head));
         for length in 0..bytes.len() {
-            // What was cut off lies behind the bytes that are lent.
+            // What was cut off lies after the bytes that are lent.
             assert_eq!(check_head(&bytes[..length], "cut"), Err(BAD_HEAD));
         }
         for more in 0..=255 {

@@ -38,7 +38,7 @@ fn packets_cut_short_at_every_place_are_read_as_the_rules_say() {
     for (bytes, streams) in legal_set(&mut Random::of_run(21)) {
         assert_eq!(check_packet(&bytes, streams, "whole"), Ok(960));
         for length in 0..bytes.len() {
-            // What was cut off lies behind the bytes that are lent.
+            // What was cut off lies after the bytes that are lent.
             tally.add(answer_of(check_packet(&bytes[..length], streams, "cut")));
         }
     }

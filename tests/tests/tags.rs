@@ -134,13 +134,13 @@ fn headers_cut_short_at_every_place_are_refused_and_bytes_behind_them_ignored() 
         let mut tally = Tally::default();
         assert_eq!(read(&bytes, &mut tally, "whole"), 0);
         for length in 0..bytes.len() {
-            // What was cut off lies behind the bytes that are lent.
+            // What was cut off lies after the bytes that are lent.
             assert_eq!(read(&bytes[..length], &mut tally, "cut"), BAD_TAGS);
         }
         for more in 0..=255 {
             let long = [&bytes[..], &[more; 3]].concat();
             for length in bytes.len()..=long.len() {
-                assert_eq!(read(&long[..length], &mut tally, "bytes behind"), 0);
+                assert_eq!(read(&long[..length], &mut tally, "bytes after the comments"), 0);
                 assert_eq!(found_tags(&long[..length]), tags);
             }
         }
@@ -176,7 +176,7 @@ fn counts_and_lengths_at_their_ends_are_read_as_the_rules_say() {
             places.push(next);
             next += 4 + comment.len();
         }
-        // With and without bytes behind it: a count of 0, and room for lengths of 16 bits.
+        // With and without bytes after it: a count of 0, and room for lengths of 16 bits.
         for behind in [0, 4, 300, 70_000] {
             let mut bytes = right.clone();
             bytes.resize(right.len() + behind, 0);

@@ -24,7 +24,7 @@ fn with_vendor(vendor: &[u8]) -> Vec<u8> {
     })
 }
 
-/// A packet with the bytes behind the name of its one comment.
+/// A packet with the bytes after the name of its one comment.
 fn with_value(value: &[u8]) -> Vec<u8> {
     encode(&Tags {
         vendor: Vec::new(),

@@ -1,6 +1,6 @@
--- The sixteen cases of document 01 ("Sixteen cases on paper"), one table under one statement: twelve packets, each read as an
--- audio packet of one stream, and four lists of pages where packets complete, judged by the rules of positions and counted as
--- the samples of a stream with a pre-skip of 312. Assumes nothing.
+-- The sixteen cases of RULES.md, 12, one table under one statement. Twelve are packets, each read as an audio packet of one
+-- stream. Four are lists of pages where packets complete, judged by the rules of positions and counted as the samples of a
+-- stream with a pre-skip of 312. Assumes nothing.
 use Prim.Native.Nat.{ℕ}
 use mathlib.Core.Path.{_≡_}
 use mathlib.Core.Bool.{Bool, true, false}

@@ -33,9 +33,9 @@ abbrev pub streamOf : List Feeding → List Shown
 streamOf F = stream R start F
 
 -- Demand 1. Whatever reader, lent memory and bytes a feeding gets, it accepts or tells one number from 1 to 19. A refusal leaves
--- the reader and the lists. The carry buffer stays under a number below 12; under 12 to 19 the piece that continues the held
--- packet, or belongs to the comment packet, is put after the held bytes; on acceptance a packet that begins is put at place 0
--- besides; every other byte stays. An accepted page leaves its entries in the first places of the lists.
+-- the reader and the lists. The carry buffer stays under a number below 12. Under 12 to 19 the piece that continues the held
+-- packet, or belongs to the comment packet, is put after the held bytes. On acceptance a packet that begins is put at place 0
+-- as well. Every other byte stays. An accepted page leaves its entries in the first places of the lists.
 pub record Demand1 : Type 0 where
   pub number : (r : Reader) (m : Lent) (b : Bytes) (n : ℕ) → feed R r m b .told ≡ refuses n → FeedingNumber n
   pub carry : (r : Reader) (m : Lent) (b : Bytes)
@@ -44,8 +44,8 @@ pub record Demand1 : Type 0 where
   pub accepted : (r : Reader) (m : Lent) (b : Bytes) (t : Taken) → Octets b → feed R r m b .told ≡ gives t
       → Shows m (feed R r m b .lent) (feed R r m b .entries) (t .counts)
 
--- Demand 2. What the writers write reads back as the same fields; what was read is written back as the same bytes; feeding
--- reads by the same rules as reading alone; legal packets are those of RFC 6716, and the cases on paper come out.
+-- Demand 2. What the writers write reads back as the same fields. What was read is written back as the same bytes. Feeding
+-- reads by the same rules as reading alone. Legal packets are those of RFC 6716, and the sixteen cases come out.
 pub record Demand2 : Type 0 where
   pub pages : pageWriter.ReadsBack
   pub pagesAgain : pageWriter.WritesBack

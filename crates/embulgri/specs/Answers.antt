@@ -1,5 +1,5 @@
--- What a call from C returns and leaves in its outputs, from what the library tells: the refusal's number, or 0 with the
--- outputs stored. On a refusal every output stays. Assumes nothing.
+-- What a call from C returns and leaves in its outputs, from what the library tells (RULES.md, 14): the refusal's number, or 0
+-- with the outputs stored. On a refusal every output stays. Assumes nothing.
 use Prim.Native.Nat.{ℕ}
 use mathlib.Core.Path.{_≡_}
 use mathlib.Core.Bool.{Bool, true, _&&_}

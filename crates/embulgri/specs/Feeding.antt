@@ -1,5 +1,5 @@
--- What starting, opening part way and feeding return to C and leave in their outputs, a reader being sixteen numbers. On a
--- refusal every output stays, but for the carry buffer, which is as the rules of feeding say. Assumes nothing.
+-- What starting, opening part way and feeding return to C and leave in their outputs, a reader being sixteen numbers (RULES.md,
+-- 14). On a refusal every output stays, but for the carry buffer, which is as the rules of feeding say. Assumes nothing.
 use Prim.Native.Nat.{ℕ}
 use mathlib.Core.Path.{_≡_}
 use mathlib.Core.List.{List, [], _∷_}
@@ -29,7 +29,7 @@ openTold f m = pick (fitting f) (openPartWay (headFrom f m)) (refuses (numberOf 
 abbrev pub toldOpened : ℕ → List ℕ → Told Reader
 toldOpened n new = pick (eqb n 0) (gives (readerFrom new)) (refuses n)
 
--- the returned number, and the state from `old` to `new`: it stands for the reader that was opened
+-- the returned number, and the state from `old` to `new`: it represents the reader that was opened
 pub record OpenedIn (f : List ℕ) (m : Bytes) (number : ℕ) (old new : List ℕ) : Type 0 where
   pub opens : toldOpened number new ≡ openTold f m
   pub state : new ≡ stored (retold numbersOf (openTold f m)) old
@@ -59,7 +59,7 @@ abbrev pub fedOf : List ℕ → Bytes → Lent → Fed
 fedOf state page m = feed (readings pageCrc) (readerFrom state) m page
 
 -- the returned number, the state from `old` to `new`, the lent memory from `before` to `after`, and the page's record from
--- `out` to `end`: the state stands for the next reader
+-- `out` to `end`: the state represents the next reader
 pub record FedIn (old : List ℕ) (page : Bytes) (before : Lent) (number : ℕ) (new : List ℕ) (after : Lent)
     (out end : List ℕ) : Type 0 where
   pub feeds : Feeds (readings pageCrc) (readerFrom old) page before (toldFed number new end) after

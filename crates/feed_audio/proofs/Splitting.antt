@@ -1,4 +1,4 @@
--- A page's lacing values split behind the first piece: how the pieces, 9 and the sums go on after it. One record for each way,
+-- A page's lacing values split after the first piece: how the pieces, 9 and the sums go on after it. One record for each way,
 -- `Ended` and `Open`: what is known once `ends` is tested. Assumes nothing.
 use Prim.Native.Nat.{ℕ, _+_, _≤_}
 use mathlib.Core.Path.{_≡_, refl, sym, ap, _∙_}

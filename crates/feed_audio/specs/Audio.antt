@@ -1,5 +1,5 @@
--- Feeding one audio page to a reader that expects it, after refusals 1 to 8 (document 01, "Refusals by number", 9, 11 and 15
--- to 19). Where the arguments are no such page, or lack the room, nothing is told and all stays. Assumes nothing.
+-- Feeding one audio page to a reader that expects it, after refusals 1 to 8 (RULES.md, refusals 9, 11 and 15 to 19). Where the
+-- arguments are no such page, or lack the room, nothing is told and all stays. Assumes nothing.
 use mathlib.Core.Bool.{Bool, not, _&&_}
 use mathlib.Core.List.{List, _++_}
 use mathlib.Core.Option.{Option, none, some}

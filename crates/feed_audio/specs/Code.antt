@@ -133,7 +133,7 @@ abbrev pub toldTimed : Timed → Told Placed
 toldTimed (Packets n d w) = gives w
 toldTimed (Untimed r) = refuses (numberOf r)
 
--- accepted: the lengths stand in front, and the stamps fit
+-- accepted: the lengths are at the start of the list, and the stamps fit
 pub record Runs (n d : ℕ) (w : Placed) (lens : List ℕ) (k : Core) (h : PageHeader) (t : Told (List ℕ)) : Type 0 where
   pub lengths : gives (take n lens) ≡ t
   pub adds : d ≡ total (take n lens)

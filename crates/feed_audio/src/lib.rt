@@ -29,9 +29,10 @@ mod carried;
 mod packets;
 mod times;
 
-// What feeding an audio page answers, or that these arguments are no audio page with room.
 pub enum AudioFed {
+    // what feeding an audio page answers
     Page(PageFed),
+    // these arguments are no audio page with room
     NotAudio,
 }
 

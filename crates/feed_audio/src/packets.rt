@@ -40,9 +40,10 @@ pub(crate) fn first_piece(lacing: &[u8]) -> Piece
     }
 }
 
-// 15 or 16; or how many packets there are and the sum of their lengths in samples.
 pub(crate) enum Lengths {
+    // how many packets there are, and the sum of their lengths in samples
     All(usize, u32),
+    // 15 or 16
     Refused(Refusal),
 }
 

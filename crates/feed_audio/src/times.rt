@@ -15,9 +15,10 @@ use refusal::Refusal;
 use stream::Core;
 use stream::Counts;
 
-// 15 to 19; or how many packets there are, the sum of their lengths, and where they lie.
 pub(crate) enum Timed {
+    // how many packets there are, the sum of their lengths, and where they lie
     Packets(usize, u32, Placed),
+    // 15 to 19
     Refused(Refusal),
 }
 

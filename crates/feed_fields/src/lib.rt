@@ -1,4 +1,4 @@
-// The checks of a page's fields against what a reader expects (document 01, refusals 5 to 8).
+// The checks of a page's fields against what a reader expects (RULES.md, refusals 5 to 8).
 ghost use mathlib.Core.Path.{_≡_};
 ghost use mathlib.Core.Bool.{not, _&&_, _||_, Bool·beq};
 ghost use mathlib.Core.List.{[], _∷_};

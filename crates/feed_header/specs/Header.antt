@@ -1,5 +1,5 @@
--- Feeding one page of the two headers to a reader that expects it, after refusals 1 to 8 (document 01, "Refusals by number",
--- 9 to 14). Where the arguments are no such page, or lack the room, nothing is told and all stays. Assumes nothing.
+-- Feeding one page of the two headers to a reader that expects it, after refusals 1 to 8 (RULES.md, refusals 9 to 14). Where the
+-- arguments are no such page, or lack the room, nothing is told and all stays. Assumes nothing.
 use Prim.Native.Nat.{ℕ}
 use mathlib.Core.Bool.{Bool, true, false, not, _&&_}
 use mathlib.Core.List.{List, _++_}

@@ -23,9 +23,10 @@ use stream::Shape;
 use stream::Tally;
 use tags_reader::TagsRead;
 
-// What feeding a page of the two headers answers, or that these arguments are no header page with room.
 pub enum HeaderFed {
+    // what feeding a page of the two headers answers
     Page(PageFed),
+    // these arguments are no header page with room
     NotHeader,
 }
 

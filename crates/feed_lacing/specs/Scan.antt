@@ -1,4 +1,4 @@
--- The packets of a page against the bound of 9, by the lacing values (document 01, refusal 9). Assumes nothing.
+-- The packets of a page against the bound of 9, by the lacing values (RULES.md, refusal 9). Assumes nothing.
 use Prim.Native.Nat.{ℕ, _≤_}
 use mathlib.Core.Path.{_≡_}
 use lib.ListN.{length, drop}

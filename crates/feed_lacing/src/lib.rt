@@ -14,9 +14,10 @@ use stream::Pending;
 use stream::Phase;
 use stream::Shape;
 
-// 9, or how many bytes the page's last, unfinished packet has, the held ones included.
 pub enum Scan {
+    // 9
     TooLong,
+    // how many bytes the page's last, unfinished packet has, the held ones included
     Rest(usize),
 }
 

@@ -1,4 +1,4 @@
--- The core after an accepted page (document 01, refusals 5 and 6). Assumes nothing.
+-- The core after an accepted page (RULES.md, refusals 5 and 6). Assumes nothing.
 use Prim.Native.Nat.{ℕ}
 use Rattle.page_layout.specs.declared.PageHeader.{PageHeader}
 use Rattle.granule.specs.declared.Position.{Position}

@@ -1,4 +1,4 @@
--- A reader's numbers stand for the reader. Assumes nothing.
+-- A reader's numbers represent the reader. Assumes nothing.
 use Prim.Native.Nat.{_%_, _<_}
 use mathlib.Core.Path.{_≡_, refl}
 use native.Mathlib.Omega.{arith}

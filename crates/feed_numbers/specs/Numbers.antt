@@ -1,6 +1,6 @@
--- A reader as sixteen numbers, for callers that can hold numbers only. Any sixteen numbers stand for a reader: an unknown phase
--- is Ended, an unknown unfinished packet is dropped, an unknown position is a granule position, and a number that its field's
--- width cannot hold counts modulo that width. Assumes nothing.
+-- A reader as sixteen numbers, for callers that can hold numbers only (RULES.md, 14). Any sixteen numbers represent a reader:
+-- an unknown phase is Ended, an unknown unfinished packet is dropped, and an unknown position is a granule position. A number
+-- that its field's width cannot hold counts modulo that width. Assumes nothing.
 use Prim.Native.Nat.{ℕ, _%_}
 use mathlib.Core.Path.{_≡_}
 use mathlib.Core.List.{List, [], _∷_}
@@ -72,7 +72,7 @@ readerFrom l = record {
   tally = record { skip = getD l 9 0 % 65536 };
 }
 
--- numbers that were made of a reader, and stand for it
+-- numbers that were made of a reader, and represent it
 pub record StandFor (l : List ℕ) (r : Reader) : Type 0 where
   pub numbers : l ≡ numbersOf r
   pub back : readerFrom l ≡ r

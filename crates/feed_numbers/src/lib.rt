@@ -52,6 +52,7 @@ fn granule_in(position: Position) -> u64
     }
 }
 
+// The numbers of a reader with this core and this tally. It refuses nothing.
 pub fn numbers_of(core: Core, tally: Tally) -> [u64; 16]
     ensures { λ r. ⌜ StandFor r (readerOf core tally) ⌝ }
 {
@@ -120,6 +121,7 @@ fn position_from(n: u64, g: u64) -> Position
     Position::At(g)
 }
 
+// The core of the reader that the numbers represent. It refuses nothing.
 pub fn core_from(state: &[u64; 16]) -> Core
     ensures { λ r. ⌜ r ≡ readerFrom (now (state .entry)) .core ⌝ }
 {
@@ -134,6 +136,7 @@ pub fn core_from(state: &[u64; 16]) -> Core
     }
 }
 
+// The tally of the reader that the numbers represent. It refuses nothing.
 pub fn tally_from(state: &[u64; 16]) -> Tally
     ensures { λ r. ⌜ r ≡ readerFrom (now (state .entry)) .tally ⌝ }
 {

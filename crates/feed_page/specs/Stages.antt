@@ -1,4 +1,5 @@
--- Feeding in stages: 1 and 2, then 3 to 8, which give the core that expects the page, then the rest. Assumes nothing.
+-- Feeding in stages (RULES.md, 7): 1 and 2, then 3 to 8, which give the core that expects the page, then the rest. Assumes
+-- nothing.
 use Prim.Native.Nat.{ℕ}
 use mathlib.Core.Path.{_≡_}
 use mathlib.Core.Bool.{true, false}

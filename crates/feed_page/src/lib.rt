@@ -40,9 +40,10 @@ fn check_unread(phase: Phase, carry: usize, ends: usize, lengths: usize, kept: u
     Checked::Passed
 }
 
-// 3 to 8: the core that expects the page, and the page's fields.
 enum Due {
+    // the core that expects the page, and the page's fields
     Page(Core, PageHeader),
+    // 3 to 8
     Refused(Refusal),
 }
 
@@ -123,9 +124,10 @@ fn feed_read(
     }
 }
 
-// Feeds one page to the core of a reader: the next one and the page's own record, or the lowest refusal of 1 to 19, which leaves
-// the three lists as they were. The carry buffer has to hold, up to the held count, what the last feeding left
-// there. Of an accepted page the lists show the end stamp, the length and the kept count of each packet.
+// Feeds one page to the core of a reader: the next one and the page's own record, or a refusal of 1 to 19, which leaves the
+// three lists as they were. The lowest number that holds is told, but 19 and 18 before 17, and for each packet in turn 15
+// before 16. The carry buffer has to hold, up to the held count, what the last feeding left there. Of an accepted page the
+// lists show the end stamp, the length and the kept count of each packet.
 pub fn feed_core(
     core: Core,
     tally: Tally,
@@ -149,8 +151,8 @@ pub fn feed_core(
     }
 }
 
-// The same, by lent tables: those of `page_crc_tables::table::tables` give the checksum, and others what they give. Whoever
-// feeds many small pages makes the tables once.
+// The same as `feed_core`, by lent tables: those of `page_crc_tables::table::tables` give the checksum, and others what they
+// give. Whoever feeds many small pages makes the tables once.
 pub fn feed_core_with(
     tables: &[u32; 4096],
     core: Core,

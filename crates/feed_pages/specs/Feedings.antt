@@ -1,4 +1,4 @@
--- The feedings of a run: one for each page that it fed, in order, and what they accepted. Assumes nothing.
+-- The feedings of a run: one for each page that it fed, in order, and what they accepted (RULES.md, 7). Assumes nothing.
 use Prim.Native.Nat.{ℕ, zero, suc, _-_}
 use mathlib.Core.List.{List, [], _∷_, _++_}
 use mathlib.Core.Option.{Option, none, some}
@@ -15,7 +15,7 @@ use Rattle.feed_pages.specs.Run.{isFull, past, Reached, Why, refused, cu
 
 -- ---- the feedings
 
--- the page that ends at e is fed with the carry buffer as it stands and the lists past the places filled
+-- the page that ends at e is fed with the carry buffer as it is and the lists past the places filled
 abbrev pub feedingTo : Bytes → Reached → Lent → ℕ → Feeding
 feedingTo b a m e = record { bytes = take (e - a .bytes) (drop (a .bytes) b); lent = past (a .packets) m }
 
@@ -50,7 +50,7 @@ unfoldable pub numbersOf : Readings → Reader → List Feeding → List (Option
 numbersOf R r [] = []
 numbersOf R r (f ∷ fs) = refusalIn (feedIn R r f .told) ∷ numbersOf R (readerAfter R r f) fs
 
--- what stands after the accepted pages
+-- what comes after the accepted pages
 abbrev pub lastNumber : Why → List (Option ℕ)
 lastNumber (refused n) = some n ∷ []
 lastNumber cut = []

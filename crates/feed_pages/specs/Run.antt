@@ -1,6 +1,6 @@
 -- The pages of a buffer fed one by one, each with the parts of the three lists past the places already filled. A run stops at a
--- refusal, at a page that the buffer's end cuts, or where fewer than 255 places are left (document 01, "Refusals by number",
--- for each page). Assumes nothing.
+-- refusal, at a page that the buffer's end cuts, or where fewer than 255 places are left (RULES.md, 7, for each page). Assumes
+-- nothing.
 use Prim.Native.Nat.{ℕ, zero, suc, _+_, _-_, _%_, _^_, _≤_}
 use mathlib.Core.Bool.{Bool}
 use mathlib.Core.List.{_++_}

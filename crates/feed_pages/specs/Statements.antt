@@ -1,4 +1,4 @@
--- What is proved of runs, beside the contract. Assumes nothing.
+-- What is proved of runs, in addition to the contract. Assumes nothing.
 use Prim.Native.Nat.{ℕ, _<_}
 use mathlib.Core.Path.{_≡_}
 use mathlib.Core.Bool.{true}
@@ -15,7 +15,7 @@ use Rattle.page_end.specs.End.{endAt}
 use Rattle.feed_pages.specs.Run.{isFull, cut, full, Ended, runs, started, feedPages, Inside}
 use Rattle.feed_pages.specs.Feedings.{runFeedings, numbersOf, lastNumber, together, entriesOf}
 
--- a run never stops for want of turns: more of them change nothing
+-- a run never stops for lack of turns: more of them change nothing
 abbrev pub EnoughTurns : Type 0
 EnoughTurns =
     (R : Readings) (r : Reader) (m : Lent) (b : Bytes) → Octets b → (n : ℕ) → length b < n
@@ -29,8 +29,8 @@ RunFits =
 
 -- ---- a run is a list of feedings
 
--- F is what the run e fed of the buffer b to the reader r, m being lent: each feeding gets the carry buffer as the last left
--- it; each but a last one is accepted; and the pages accepted, and the packets that they list, are those of the run
+-- F is what the run e fed of the buffer b to the reader r, m being lent. Each feeding gets the carry buffer as the last left
+-- it. Each but a last one is accepted. The pages accepted, and the packets that they list, are those of the run.
 pub record RunIs (R : Readings) (r : Reader) (m : Lent) (b : Bytes) (e : Ended) (F : List Feeding) : Type 0 where
   pub handed : HandedOn R r (m .carry) F
   pub reader : finally R r F ≡ e .reached .reader
@@ -63,8 +63,8 @@ HeldCounts =
     (R : Readings) (F : List Feeding) (r : Reader) (old new : Bytes) → HandedOn R r old F
     → take (heldOf (r .core .pending)) old ≡ take (heldOf (r .core .pending)) new → HandedAlike R r old new F
 
--- a run from a reader just started: its feedings are such as T1, T3 and T4 ask for, and the reader and the carry buffer at its
--- end are those that the accepted pages alone determine
+-- A run from a reader just started: its feedings are such as T1, T3 and T4 ask for. The reader and the carry buffer at its
+-- end are those that the accepted pages alone determine.
 pub record StartedIs (R : Readings) (e : Ended) (F : List Feeding) : Type 0 where
   pub handed : HandedOn R start [] F
   pub state : Determined R (stream R start F) (e .reached .reader) (e .lent .carry)

@@ -33,10 +33,13 @@ pub struct Progress {
     pub sums: Sums,
 }
 
-// Why a run stops: the next page is refused, is not whole in the buffer, or fewer than 255 places are left for it.
+// Why a run stops.
 pub enum Stop {
+    // the next page is refused
     Refused(Refusal),
+    // the next page is not whole in the buffer
     Cut,
+    // fewer than 255 places of a list are left for the next page
     Full,
 }
 
@@ -143,9 +146,11 @@ fn run(
 }
 
 // Feeds the pages of a buffer one by one, each with the parts of the three lists past the places already filled, as
-// `reader::feed` would. It stops at a refusal, at a page that the buffer's end cuts, or where fewer than 255 places are left,
-// and tells how far it came and why it stopped. A refusal leaves the lists as they were, and the carry buffer as
-// `reader::feed` leaves it.
+// `reader::feed` would. It stops at a refusal, at a page that the buffer's end cuts, or where fewer than 255 places are left.
+// It tells how far it came and why it stopped. The page that is refused leaves the lists as they were, and the carry buffer
+// as `reader::feed` leaves it.
+// Example: where `stop` is `Stop::Cut`, the bytes from place `progress.bytes` on are fed again with more after them, to
+// `progress.reader`.
 pub fn feed_pages(
     reader: Reader,
     buffer: &[u8],

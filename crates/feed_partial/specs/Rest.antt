@@ -1,4 +1,4 @@
--- The refusal of bytes that are no whole page (document 01, refusals 2 and 3). Assumes nothing.
+-- The refusal of bytes that are no whole page (RULES.md, refusals 2 and 3). Assumes nothing.
 use Rattle.octets.specs.Pick.{pick}
 use Rattle.refusal.specs.declared.Refusal.{Refusal}
 use Rattle.refusal.specs.declared.Refusal.the-variants.{AfterEnd, NotOnePage}

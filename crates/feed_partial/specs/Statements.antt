@@ -1,4 +1,4 @@
--- What is proved of a cut input, beside the contract. Assumes nothing.
+-- What is proved of a cut input, in addition to the contract. Assumes nothing.
 use Prim.Native.Nat.{ℕ}
 use mathlib.Core.Path.{_≡_}
 use mathlib.Core.Bool.{false}
@@ -13,7 +13,7 @@ use Rattle.stream.specs.Feed.{Reader, Feeds}
 use Rattle.stream.specs.Lent.{Lent, isShort}
 use Rattle.feed_partial.specs.Rest.{restRefusal}
 
--- the bytes from a cut on, fed as they stand to a reader that is lent enough, are refused by this number, and all stays
+-- the bytes from a cut on, fed as they are to a reader that is lent enough, are refused by this number, and all stays
 abbrev pub RestRefused : Type 0
 RestRefused =
     (crc : Bytes → ℕ) (r : Reader) (m : Lent) (b : Bytes) (at : ℕ) → isShort m ≡ false → endAt b at ≡ none

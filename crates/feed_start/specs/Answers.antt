@@ -1,4 +1,4 @@
--- What opening a core part way answers, by the rules of a stream. Assumes nothing.
+-- What opening a core part way answers, by the rules of a stream (RULES.md, 9). Assumes nothing.
 use Rattle.refusal.specs.Numbers.{numberOf}
 use Rattle.refusal.specs.Told.{Told, gives, refuses}
 use Rattle.stream.specs.Feed.{Reader, readerOf}

@@ -11,10 +11,13 @@ use stream::Phase;
 use stream::Tally;
 
 pub enum CoreOpened {
+    // the core and tally of a reader opened part way
     At(Core, Tally),
+    // 23
     Refused(Refusal),
 }
 
+// The core of a reader that waits for the first page of a stream. It refuses nothing.
 pub fn start_core() -> Core
     ensures { λ r. ⌜ r ≡ start .core ⌝ }
 {
@@ -29,7 +32,8 @@ pub fn start_core() -> Core
     }
 }
 
-// Opened part way, in a stream with this header. 23: fields that a reading would refuse.
+// The core and tally of a reader opened part way, in a stream with this header. 23: `head_writer::write_head` would refuse
+// the fields by 23.
 pub fn open_core(head: Head) -> CoreOpened
     ensures { λ r. ⌜ toldOpened r ≡ openPartWay head ⌝ }
 {

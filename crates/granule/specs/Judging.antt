@@ -1,6 +1,6 @@
--- The granule position of an audio page (document 01, "Stamps and cuts", "Opened part way", refusals 11, 19, 18 and 17; RFC
--- 7845, 4). G is its granule, D the samples of the packets that complete there. Document 01 has 19, 18 and 17 for a G of at
--- most 2^63 - 1; the same rules stand here for every number. Assumes nothing.
+-- The granule position of an audio page (RULES.md, 8 and 9, refusals 11, 19, 18 and 17; RFC 7845, 4). G is its granule, D the
+-- samples of the packets that complete there. Feeding judges a G of at most 2^63 - 1 only (11); the rules here are for every
+-- number. Assumes nothing.
 use Prim.Native.Nat.{ℕ, _+_, _-_, _%_, _^_}
 use mathlib.Core.Bool.{Bool, true, false, not, _&&_}
 use mathlib.Core.List.{List, [], _∷_}

@@ -1,4 +1,4 @@
--- What becomes of each decoded sample (document 01, "Stamps and cuts"; RFC 7845, 4.1 to 4.4). Assumes nothing.
+-- What becomes of each decoded sample (RULES.md, 8; RFC 7845, 4.1 to 4.4). Assumes nothing.
 use Prim.Native.Nat.{ℕ, zero, suc, _+_}
 use mathlib.Core.Bool.{Bool, true, false, not, _&&_}
 use lib.Dec.{ltb}

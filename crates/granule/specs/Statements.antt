@@ -1,4 +1,4 @@
--- What is proved of positions and samples, beside the contracts. Assumes nothing.
+-- What is proved of positions and samples, in addition to the contracts. Assumes nothing.
 use Prim.Native.Nat.{ℕ, _+_, _-_, _^_, _<_, _≤_, min}
 use mathlib.Core.Path.{_≡_}
 use mathlib.Core.Bool.{Bool, true, false}

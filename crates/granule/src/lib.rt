@@ -7,10 +7,13 @@ ghost use Rattle.granule.specs.Code.{firstPlace};
 ghost use Rattle.granule.specs.declared.Position.the-variants.{Unset as NoneYet, Joined as PartWay, At as Known};
 use refusal::Refusal;
 
-// The last granule position of an audio page: none yet, none yet in a reader opened part way, or P.
+// The last granule position of an audio page.
 pub enum Position {
+    // none yet
     Unset,
+    // none yet in a reader opened part way
     Joined,
+    // this one, P in the rules
     At(u64),
 }
 
@@ -25,6 +28,7 @@ pub struct Placed {
 
 pub enum Judged {
     Placed(Placed),
+    // 19, 18 or 17
     Refused(Refusal),
 }
 
@@ -34,7 +38,8 @@ pub const GRANULE_MAX: u64 = 9223372036854775807;
 // All ones: the page has no granule position.
 const NO_GRANULE: u64 = 18446744073709551615;
 
-// 11: where a packet completes, `g` is above the most that it may be; where none does, the page has a granule position.
+// Whether 11 holds: where a packet completes, `g` is above the most that it may be; where none does, the page has a granule
+// position.
 pub fn wrong_granule(most: u64, completes: bool, g: u64) -> bool
     ensures { λ r. ⌜ r ≡ granuleWrong most completes g ⌝ }
 {
@@ -123,6 +128,9 @@ fn judge_at(p: u64, preskip: u16, g: u64, d: u32, last: bool) -> Judged
 }
 
 // Judges a page where an audio packet completes: its granule `g`, the samples `d` of its packets, and its last mark.
+// 19: it is marked last, and the position is `Joined`. 18: it is marked last, the position is `Unset`, and `g` is below the
+// pre-skip. 17: neither, and `g` is below P + `d`, P being 0 where there is none; on a page marked last, below P.
+// Example: at `Position::At(960)` a page with `g` of 1920 and `d` of 960 has no hole, and its stamps run from 960.
 pub fn judge(position: Position, preskip: u16, g: u64, d: u32, last: bool) -> Judged
     ensures { λ r. ⌜ toldJudged r ≡ judged position preskip g d last ⌝ }
 {
@@ -133,7 +141,8 @@ pub fn judge(position: Position, preskip: u16, g: u64, d: u32, last: bool) -> Ju
     }
 }
 
-// How many of a packet's samples are kept: `skip` samples are still to skip, and the page has the granule `g`.
+// How many of a packet's samples are kept. The packet begins after position `at`, `skip` samples are still to skip, and the
+// page has the granule `g`. It refuses nothing. Example: `kept(0, 960, 312, 960, false)` is 648.
 pub fn kept(at: u64, samples: u32, skip: u16, g: u64, last: bool) -> u64
     ensures { λ r. ⌜ r ≡ keptOf skip last g at samples ⌝ }
 {

@@ -1,5 +1,5 @@
--- The places of the fields in an identification header (RFC 7845, 5.1; document 01, "Identification header"), and how long
--- the header is. Assumes nothing.
+-- The places of the fields in an identification header (RFC 7845, 5.1; RULES.md, 4), and how long the header is. Assumes
+-- nothing.
 use Prim.Native.Nat.{ℕ, _+_}
 use mathlib.Core.List.{[], _∷_}
 use Rattle.octets.specs.Octets.{Bytes}

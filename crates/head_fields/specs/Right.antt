@@ -1,4 +1,4 @@
--- When the fields of an identification header are right (RFC 7845, 5.1 and 5.1.1; document 01, refusals 12, 13 and 23). The
+-- When the fields of an identification header are right (RFC 7845, 5.1 and 5.1.1; RULES.md, refusals 12, 13 and 23). The
 -- reader, the writer and opening part way share this. Assumes nothing.
 use Prim.Native.Nat.{ℕ, _+_, _-_}
 use mathlib.Core.Bool.{Bool, true, false, _&&_, _||_}

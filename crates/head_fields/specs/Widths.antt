@@ -1,5 +1,5 @@
--- The widths of the fields of an identification header (RFC 7845, 5.1). The fields of any record in the code are in them.
--- Assumes nothing.
+-- The widths of the fields of an identification header (RFC 7845, 5.1; RULES.md, 4). The fields of any record in the code are
+-- in them. Assumes nothing.
 use Prim.Native.Nat.{_<_}
 use mir.Syntax.{w16}
 use mir.Val.{SFits}

@@ -1,4 +1,4 @@
--- The lines that name the fields of an identification header. Assumes nothing.
+-- The lines that name the fields of an identification header (RULES.md, 13). Assumes nothing.
 use Prim.Native.Nat.{ℕ, _≤_}
 use mathlib.Core.List.{[], _∷_, _++_}
 use lib.IntN.{ℤ}

@@ -1,4 +1,5 @@
--- The fields of an identification header (RFC 7845, 5.1) as numbers, as callers in other languages pass them. Assumes nothing.
+-- The fields of an identification header (RFC 7845, 5.1) as numbers, as callers in other languages pass them (RULES.md, 14).
+-- Assumes nothing.
 use Prim.Native.Nat.{ℕ, _%_}
 use mathlib.Core.Bool.{Bool, true, _&&_}
 use mathlib.Core.List.{List, [], _∷_}

@@ -1,4 +1,4 @@
--- What is proved of the numbers of a header, beside the contracts. Assumes nothing.
+-- What is proved of the numbers of a header, in addition to the contracts. Assumes nothing.
 use mathlib.Core.Path.{_≡_}
 use mathlib.Core.Bool.{true}
 use Rattle.head_fields.specs.declared.Head.{Head}

@@ -1,5 +1,5 @@
--- The fields of an identification header by their places (RFC 7845, 5.1; document 01, "Identification header"). A place past
--- the end of the bytes reads as zero. Assumes nothing.
+-- The fields of an identification header by their places (RFC 7845, 5.1; RULES.md, 4). A place past the end of the bytes reads
+-- as zero. Assumes nothing.
 use Prim.Native.Nat.{ℕ, _-_}
 use mathlib.Core.List.{_++_}
 use lib.ListN.{length, getD, take, drop, replicate}

@@ -1,4 +1,4 @@
--- Reading an identification header (document 01, refusals 12 and 13). 12 comes before 13, with the family byte as it is.
+-- Reading an identification header (RULES.md, refusals 12 and 13). 12 comes before 13, with the family byte as it is.
 -- Assumes nothing.
 use Prim.Native.Nat.{ℕ}
 use mathlib.Core.Path.{_≡_}

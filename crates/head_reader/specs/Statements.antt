@@ -1,4 +1,4 @@
--- What is proved of identification headers, beside the contracts. Assumes nothing.
+-- What is proved of identification headers, in addition to the contracts. Assumes nothing.
 use mathlib.Core.Path.{_≡_}
 use mathlib.Core.Bool.{true}
 use Rattle.octets.specs.Octets.{Bytes, Octets}

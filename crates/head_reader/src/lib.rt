@@ -10,11 +10,13 @@ use head_fields::place;
 use refusal::Refusal;
 
 pub enum Verdict {
+    // the record holds the fields
     Right,
+    // 12 or 13
     Refused(Refusal),
 }
 
-// The record holds an array, so it is beside the verdict. Under a refusal it is all zeros.
+// The record holds an array, so it is next to the verdict and not in it. Under a refusal it is all zeros.
 pub struct HeadRead {
     pub verdict: Verdict,
     pub head: Head,
@@ -120,8 +122,10 @@ fn refused(why: Refusal) -> HeadRead
     }
 }
 
-// The fields of an identification header. 12: wrong signature, version or length. 13: wrong channel mapping. Under a
-// refusal the record is all zeros.
+// The fields of an identification header. 12: wrong signature, version or length. 13: not 12, and the channel mapping is
+// wrong. Under a refusal the record is all zeros.
+// Example: a right header of family 0 with two channels, of 19 bytes, gives the stream count 1, the coupled count 1 and the
+// indices 0 and 1.
 pub fn read_head(b: &[u8]) -> HeadRead
     ensures { λ r. ⌜ HeadIs (now (b .entry)) r ⌝ }
 {

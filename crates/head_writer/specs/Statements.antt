@@ -1,4 +1,4 @@
--- What is proved of written identification headers, beside the contracts. Assumes nothing.
+-- What is proved of written identification headers, in addition to the contracts. Assumes nothing.
 use Prim.Native.Nat.{_≤_}
 use mathlib.Core.Path.{_≡_}
 use lib.ListN.{length, take}

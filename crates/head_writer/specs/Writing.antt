@@ -1,4 +1,4 @@
--- Writing an identification header (document 01, refusals 23 and 22; RFC 7845, 5.1). Assumes nothing.
+-- Writing an identification header (RULES.md, refusals 23 and 22; RFC 7845, 5.1). Assumes nothing.
 use Prim.Native.Nat.{ℕ}
 use mathlib.Core.Path.{_≡_}
 use mathlib.Core.Bool.{not}

@@ -11,7 +11,9 @@ use head_fields::place;
 use refusal::Refusal;
 
 pub enum HeadWritten {
+    // how many bytes were written
     Bytes(usize),
+    // 23 or 22
     Refused(Refusal),
 }
 
@@ -63,8 +65,10 @@ fn put_head(h: Head, out: &mut [u8])
     }
 }
 
-// The header of these fields, written to the start of `out`. 23: fields that a reading would refuse, or an unused place of
-// the mapping that is not zero. 22: `out` is shorter than the header. On refusal nothing is written.
+// The header of these fields, written to the start of `out`. 23: the version is not 1, the channel mapping is wrong, family 0
+// has other counts or indices than its own, or an unused place of the mapping is not zero. 22: not 23, and `out` is shorter
+// than the header. On refusal nothing is written.
+// Example: right fields of family 0 give `HeadWritten::Bytes(19)`, where `out` has 19 bytes or more.
 pub fn write_head(h: Head, out: &mut [u8]) -> HeadWritten
     ensures { λ r. ⌜ Wrote h (now (out .entry)) r (now (out .exit)) ⌝ }
 {

@@ -1,4 +1,4 @@
--- The bounds of the rules (document 01, "Numbers that bound the work"). Assumes nothing.
+-- The bounds of the rules (RULES.md, 1). Assumes nothing.
 use Prim.Native.Nat.{ℕ}
 
 -- the most bytes that a packet may have

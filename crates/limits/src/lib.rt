@@ -1,4 +1,4 @@
-// The bounds of the rules. No code: whoever asks for room or measures a packet compares with these.
+// The bounds of the rules. No code. Functions that ask for room or measure a packet compare with these.
 
 // The most bytes that a packet may have.
 pub const PACKET_MAX: usize = 61440;

@@ -7,9 +7,9 @@ use limits::PACKET_MAX;
 use reader::Reader;
 use refusal::Refusal;
 
-// Where a listing is: the reader; the bytes of the buffer that are not fed yet, from `from` to `to`; the places of the lists
-// that are not written yet, from `listed` to `packets`; how much of the output is filled; why the last run of pages stopped;
-// and the pages and samples so far.
+// How far a listing has come. The bytes of the buffer from `from` to `to` are not fed yet. The places of the lists from
+// `listed` to `packets` are not written yet. `filled` bytes of the output are filled. `stop` is why the last run of pages
+// stopped, and `pages` and `sums` are the pages and samples so far.
 struct Listing {
     reader: Reader,
     from: usize,

@@ -1,4 +1,4 @@
--- The bytes of a line that stands in a buffer. Assumes nothing.
+-- The bytes of a line that lies in a buffer. Assumes nothing.
 use mathlib.Core.Path.{_≡_, sym, ap, _∙_}
 use mathlib.Core.List.{_++_}
 use Prim.Native.Nat.{ℕ, _+_, _*_, _-_, _/_, _%_, _≤_, _<_}
@@ -34,7 +34,7 @@ at-least-four x h =
       decimal-right (x / 10 / 10 / 10) .some,
     )
 
--- eight bytes of a line that stands at a place
+-- eight bytes of a line that lies at a place
 eight-at : (out line : Bytes) (at i : ℕ) → Octets out → at + length line ≤ length out → take (length line) (drop at out) ≡ line
     → i + 8 ≤ length line → octets 8 (number 8 out (at + i)) ≡ take 8 (drop i line)
 eight-at out line at i o fits same h =

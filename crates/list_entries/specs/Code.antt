@@ -52,7 +52,7 @@ pub record Ready (out : Bytes) (at : ℕ) (c : Repeat) : Type 0 where
   pub room : at + longest ≤ length out
   pub sound : Sound c
 
--- the line of a packet stands at a place of the buffer
+-- the line of a packet is at a place of the buffer
 pub record Stands (out : Bytes) (at next end samples kept : ℕ) : Type 0 where
   pub place : next ≡ at + length (entryLine end samples kept)
   pub inside : next ≤ length out

@@ -1,4 +1,4 @@
--- The lines of several packets, one after the other (document 01, "The listing program"). Assumes nothing.
+-- The lines of several packets, one after the other (RULES.md, 11). Assumes nothing.
 use Prim.Native.Nat.{ℕ, suc, _+_, _-_}
 use mathlib.Core.Path.{_≡_}
 use mathlib.Core.List.{List, [], _∷_, _++_}

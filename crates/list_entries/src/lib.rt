@@ -1,6 +1,6 @@
 // The lines of several packets of a listing, put into a lent buffer in one call. The end stamps of packets that follow each
-// other have all but a few digits in common, and nearly all packets of a recording one length: so the bytes of a line are
-// kept for the next one, and only the last four digits of its stamp are new.
+// other have all but a few digits in common, and nearly all packets of a recording have one length. So the bytes of a
+// line are kept for the next one, and only the last four digits of its stamp are new.
 ghost use mathlib.Core.Path.{_≡_};
 ghost use Prim.Native.Nat.{_-_};
 ghost use lib.Dec.{ltb};
@@ -17,9 +17,9 @@ pub struct Listed {
     pub at: usize,
 }
 
-// Bytes of a line. The stamps from `base` to `base + 9999` have the first `digits` bytes of `upper` in common. Behind the
-// stamp of a packet of `samples` samples, `kept` of them kept, stand `bytes` bytes, the first eight of which are those of
-// `first` and the last eight those of `last`. Where `digits` is 0, nothing is kept.
+// Bytes of a line. The stamps from `base` to `base + 9999` have the first `digits` bytes of `upper` in common. After the
+// stamp of a packet of `samples` samples, `kept` of them kept, come `bytes` bytes. The first eight of these are those of
+// `first`, and the last eight those of `last`. Where `digits` is 0, nothing is kept.
 struct Repeat {
     base: u64,
     samples: u64,
@@ -79,7 +79,7 @@ fn put_again(out: &mut [u8], at: usize, c: Repeat, end: u64) -> usize
     next
 }
 
-// The bytes of a line that stands from `at` to `next`, where its stamp has 8 to 12 digits and what follows it 8 to 16 bytes.
+// The bytes of a line that lies from `at` to `next`, where its stamp has 8 to 12 digits and what follows it 8 to 16 bytes.
 fn bytes_of(out: &[u8], at: usize, next: usize, end: u64, samples: u64, kept: u64) -> Repeat
     requires { ⌜ Stands (now out) at next end samples kept ⌝ }
     ensures { λ r. ⌜ Sound r ⌝ }

@@ -1,4 +1,4 @@
--- The lines of a listing (document 01, "The listing program"). Assumes nothing.
+-- The lines of a listing (RULES.md, 11). Assumes nothing.
 use Prim.Native.Nat.{ℕ, _+_, _≤_}
 use mathlib.Core.List.{[], _∷_, _++_}
 use lib.ListN.{length}

@@ -1,5 +1,5 @@
-// The lines of a listing, as text. Each function puts one whole line into a lent buffer, or nothing where it does not fit,
-// and answers the place after it.
+// The lines of a listing, as text. Each function puts one whole line into a lent buffer from place `at` on, and answers the
+// place after it. Where the line does not fit, it puts nothing and answers `at`.
 ghost use mathlib.Core.Path.{_≡_};
 ghost use mathlib.Core.List.{_++_};
 ghost use Prim.Native.Nat.{_+_};
@@ -72,7 +72,7 @@ fn lacks_refused(len: usize, at: usize, number: u64, page: u64) -> bool
     )
 }
 
-// The line above all entries.
+// The line above all entries: "end dur kept".
 pub fn put_first(out: &mut [u8], at: usize) -> usize
     ensures { λ r. ⌜ Put (now (out .entry)) at firstLine r (now (out .exit)) ⌝ }
 {
@@ -83,7 +83,7 @@ pub fn put_first(out: &mut [u8], at: usize) -> usize
     at + 13
 }
 
-// The line of a packet: its end stamp, its length and how many of its samples are kept.
+// The line of a packet: its end stamp, its length and how many of its samples are kept. Example: "960 960 648".
 pub fn put_entry(out: &mut [u8], at: usize, end: u64, samples: u64, kept: u64) -> usize
     ensures { λ r. ⌜ Put (now (out .entry)) at (entryLine end samples kept) r (now (out .exit)) ⌝ }
 {
@@ -95,7 +95,7 @@ pub fn put_entry(out: &mut [u8], at: usize, end: u64, samples: u64, kept: u64) -
     text_decimal::put_ended(out, third, kept, b'\n')
 }
 
-// The last line of a listing.
+// The last line of a listing that was not refused. Example: "total kept=648 skipped=312 trimmed=0 hole=0".
 pub fn put_total(
     out: &mut [u8],
     at: usize,
@@ -115,7 +115,7 @@ pub fn put_total(
     last + 1
 }
 
-// The last line of a listing that ends with a refusal, by its number, of a page, counted from 0.
+// The last line of a listing that ends with a refusal, by its number, of a page, counted from 0. Example: "refused 4 page 2".
 pub fn put_refused(out: &mut [u8], at: usize, number: u64, page: u64) -> usize
     ensures { λ r. ⌜ Put (now (out .entry)) at (refusedLine number page) r (now (out .exit)) ⌝ }
 {

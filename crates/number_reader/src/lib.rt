@@ -20,18 +20,21 @@ fn number_at(s: &[u8], at: usize, n: usize) -> u64
     x
 }
 
+// The number in the two bytes from place `at` on.
 pub fn number16(s: &[u8], at: usize) -> u16
     ensures { λ r. ⌜ r ≡ number 2 (now (s .entry)) at ⌝ }
 {
     number_at(s, at, 2) as u16
 }
 
+// The number in the four bytes from place `at` on.
 pub fn number32(s: &[u8], at: usize) -> u32
     ensures { λ r. ⌜ r ≡ number 4 (now (s .entry)) at ⌝ }
 {
     number_at(s, at, 4) as u32
 }
 
+// The number in the eight bytes from place `at` on.
 pub fn number64(s: &[u8], at: usize) -> u64
     ensures { λ r. ⌜ r ≡ number 8 (now (s .entry)) at ⌝ }
 {

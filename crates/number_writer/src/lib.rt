@@ -36,18 +36,21 @@ fn put_number(d: &mut [u8], at: usize, n: usize, x: u64)
     octets::copy_at(d, at, &b[..n]);
 }
 
+// The byte x into d at place `at`, or nothing where it does not fit.
 pub fn put8(d: &mut [u8], at: usize, x: u8)
     ensures { λ _. ⌜ now (d .exit) ≡ copied (now (d .entry)) at (octets 1 x) ⌝ }
 {
     put_number(d, at, 1, x as u64)
 }
 
+// The four bytes of x into d from place `at` on, or nothing where they do not fit.
 pub fn put32(d: &mut [u8], at: usize, x: u32)
     ensures { λ _. ⌜ now (d .exit) ≡ copied (now (d .entry)) at (octets 4 x) ⌝ }
 {
     put_number(d, at, 4, x as u64)
 }
 
+// The eight bytes of x into d from place `at` on, or nothing where they do not fit.
 pub fn put64(d: &mut [u8], at: usize, x: u64)
     ensures { λ _. ⌜ now (d .exit) ≡ copied (now (d .entry)) at (octets 8 x) ⌝ }
 {

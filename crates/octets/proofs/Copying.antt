@@ -28,7 +28,7 @@ length-copied d at s = by (leb (at + length s) (length d)) refl
     by true e = length-paste d at s (length s) (leb-true (at + length s) (length d) e) (le-refl (length s))
     by false e = refl
 
--- a is written, and the rest of d stands: s goes in after it
+-- a is written, and the rest of d is as it was: s goes in after it
 pub copied-next : (d a s : Bytes) → length a + length s ≤ length d
     → copied (a ++ drop (length a) d) (length a) s ≡ (a ++ s) ++ drop (length (a ++ s)) d
 copied-next d a s h =

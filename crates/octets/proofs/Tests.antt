@@ -13,7 +13,7 @@ agrees {r} {q} {x} {y} e f h = eq-eqb x y (sym e ∙ h ∙ f)
 pub differs : {r q x y : ℕ} → r ≡ x → q ≡ y → (r ≡ q → ⊥) → eqb x y ≡ false
 differs {r} {q} {x} {y} e f h = ne-eqb x y (λ p. h (e ∙ p ∙ sym f))
 
--- a number that a call gave, and one at hand
+-- a number that a call gave, and another that it equals
 pub equals : {r x k : ℕ} → r ≡ x → r ≡ k → eqb x k ≡ true
 equals {k = k} e h = agrees {y = k} e refl h
 

@@ -1,10 +1,10 @@
--- Numbers as bytes, the least significant byte first (RFC 3533, 6; RFC 7845, 5). Assumes nothing.
+-- Numbers as bytes, the least significant byte first (RFC 3533, 6; RFC 7845, 5; RULES.md, 3). Assumes nothing.
 use Prim.Native.Nat.{ℕ, zero, suc, _+_, _*_, _/_, _%_}
 use mathlib.Core.List.{[], _∷_}
 use lib.ListN.{take, drop}
 use Rattle.octets.specs.Octets.{Bytes}
 
--- the number that bytes stand for
+-- the number that bytes mean
 unfoldable pub value : Bytes → ℕ
 value [] = 0
 value (b ∷ s) = b + 256 * value s

@@ -6,6 +6,7 @@ ghost use lib.Dec.{ltb};
 ghost use lib.ListN.{getD, take, drop};
 ghost use Rattle.octets.specs.Octets.{Widened, begins, copied};
 
+// The smaller of two numbers.
 pub fn least(a: usize, b: usize) -> usize
     ensures { λ r. ⌜ r ≡ min a b ⌝ }
 {

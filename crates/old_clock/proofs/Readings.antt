@@ -1,4 +1,4 @@
--- The readings: equal to the count at first, then wrong, then standing still. Assumes nothing.
+-- The readings: equal to the count at first, then wrong, then no longer changing. Assumes nothing.
 use mathlib.Core.Path.{_≡_, refl}
 use mathlib.Core.Bool.{Bool, true, false}
 use mathlib.Core.List.{List, [], _∷_}
@@ -79,7 +79,7 @@ reads-true lengths h =
     let t = equal-after lengths startClock (record { whole = refl; reads = λ h. (refl, refl) }) in
     t .reads (omega arith)
 
--- ---- wrong, and standing still
+-- ---- wrong, and no longer changing
 
 right : rightLength 120 ≡ true
 unfolding rightLength

@@ -1,5 +1,5 @@
--- The old clock (document 01, "The old clock", refusal 30): one record holds an f32 reading and the exact count of samples.
--- Each packet adds its length to both. Assumes nothing.
+-- The old clock (RULES.md, 10, refusal 30): one record holds an f32 reading and the exact count of samples. Each packet adds
+-- its length to both. Assumes nothing.
 use Prim.Native.Nat.{ℕ, _+_, _-_, _%_, _^_}
 use mathlib.Core.Bool.{Bool, true, false, not, _&&_}
 use mathlib.Core.List.{List, [], _∷_}

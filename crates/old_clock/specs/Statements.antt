@@ -1,4 +1,4 @@
--- What is proved of the old clock, beside the contracts (document 01, "The old clock"). Assumes nothing.
+-- What is proved of the old clock, in addition to the contracts (RULES.md, 10). Assumes nothing.
 use Prim.Native.Nat.{ℕ, _+_, _≤_}
 use mathlib.Core.Path.{_≡_}
 use mathlib.Core.Bool.{true, false}
@@ -27,6 +27,6 @@ ReadsTrue = (lengths : List ℕ) → after startClock lengths .count ≤ 1342177
 abbrev pub ReadsWrong : Type 0
 ReadsWrong = (c : Clock) → c .count + 120 ≤ mostCount → Reads c 134217840 → Reads (after c (120 ∷ [])) 134217952
 
--- from 2 ^ 31 on the reading stands still
+-- from 2 ^ 31 on, packets of 120 samples do not change the reading
 abbrev pub StandsStill : Type 0
 StandsStill = (c : Clock) → Reads c 2147483648 → (packets : ℕ) → Reads (after c (replicate packets 120)) 2147483648

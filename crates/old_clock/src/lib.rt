@@ -1,4 +1,4 @@
-// The old clock, kept to explain the old logs: their count of samples was an f32. Beside it stands the exact count.
+// The old clock, kept to explain the old logs: their count of samples was an f32. The exact count is kept with it.
 ghost use mathlib.Core.Path.{_≡_};
 ghost use Rattle.old_clock.specs.Clock.{startClock, rightLength, addSamples, toldAdded};
 use refusal::Refusal;
@@ -9,10 +9,13 @@ pub struct Clock {
 }
 
 pub enum Added {
+    // the clock after the packet
     Clock(Clock),
+    // 30
     Refused(Refusal),
 }
 
+// A clock with the reading 0 and the count 0. It refuses nothing.
 pub fn start() -> Clock
     ensures { λ r. ⌜ r ≡ startClock ⌝ }
 {
@@ -35,7 +38,8 @@ fn right_length(samples: u64) -> bool
     samples % 120 == 0
 }
 
-// The clock after a packet of this length. 30: no packet has this length, or the exact count would pass 2^63 - 1.
+// The clock after a packet of this length. 30: the length is not a multiple of 120 from 120 to 5760, or the exact count would
+// pass 2^63 - 1. Example: `add(start(), 960)` gives the reading 960.0 and the count 960.
 pub fn add(clock: Clock, samples: u64) -> Added
     ensures { λ r. ⌜ toldAdded r ≡ addSamples clock samples ⌝ }
 {

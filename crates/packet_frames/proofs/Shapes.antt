@@ -1,4 +1,4 @@
--- How the frames of a packet stand in it, by the tests on its first two bytes. Assumes nothing.
+-- How the frames of a packet lie in it, by the tests on its first two bytes. Assumes nothing.
 use mathlib.Core.Path.{_≡_, refl}
 use mathlib.Core.Bool.{Bool, true, false}
 use mathlib.Core.List.{[], _∷_}

@@ -1,4 +1,4 @@
--- What the functions answer, in the code's words: a number with the place that follows it, and how the frames stand.
+-- What the functions answer, in the code's words: a number with the place that follows it, and how the frames lie.
 -- Assumes nothing.
 use Prim.Native.Nat.{ℕ, _+_, _≤_}
 use mathlib.Core.Path.{_≡_}
@@ -50,7 +50,7 @@ capped k (value n s) = pick (ltb k n) short (value n s)
 abbrev pub paddingIn : Bytes → ℕ → Read ℕ
 paddingIn s at = capped (length s) (paddingFrom 0 (drop at s))
 
--- how the frames stand, with no rule named, and with padding that is no longer than the packet
+-- how the frames lie, with no rule named, and with padding that is no longer than the packet
 pub data Plain : Type 0 where
   none : Plain
   plain : ℕ → Bool → ℕ → Bytes → Plain
@@ -81,7 +81,7 @@ abbrev pub Sound : Bytes → Layout → Type 0
 Sound s IllegalLayout = Unit {0}
 Sound s (Frames m vary p at) = FramesIn s m p at
 
--- the answer r tells how the frames of s stand
+-- the answer r tells how the frames of s lie
 pub record LayoutIs (s : Bytes) (stand : Plain) (r : Layout) : Type 0 where
   pub told : toldLayout s r ≡ stand
   pub sound : Sound s r

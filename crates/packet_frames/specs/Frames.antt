@@ -1,5 +1,5 @@
--- The lengths coded in an Opus packet, and the rules of RFC 6716 by their names (RFC 6716, 3.2 and 3.4; document 01, "Opus
--- packets"). Assumes nothing.
+-- The lengths coded in an Opus packet, and the rules of RFC 6716 by their names (RFC 6716, 3.2 and 3.4; RULES.md, 6). Assumes
+-- nothing.
 use Prim.Native.Nat.{ℕ, zero, suc, _+_, _*_}
 use mathlib.Core.List.{List, [], _∷_}
 use lib.Dec.{ltb}
@@ -42,7 +42,7 @@ unfoldable pub codedTimes : ℕ → Bytes → Read (List ℕ)
 codedTimes zero s = value [] s
 codedTimes (suc n) s = andLater (codedTimes n) (coded s)
 
--- the length of the padding (RFC 6716, 3.2.5), p being counted already: each byte of 255 stands for 254 and goes on, a
+-- the length of the padding (RFC 6716, 3.2.5), p being counted already: each byte of 255 counts 254 and goes on, a
 -- smaller one ends it
 unfoldable pub paddingFrom : ℕ → Bytes → Read ℕ
 paddingFrom p [] = short

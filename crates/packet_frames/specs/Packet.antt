@@ -1,4 +1,4 @@
--- One Opus packet: the sizes of its frames, and what it leaves (RFC 6716, 3.2, 3.4 and Appendix B; document 01, refusal 15).
+-- One Opus packet: the sizes of its frames, and what it leaves (RFC 6716, 3.2, 3.4 and Appendix B; RULES.md, refusal 15).
 -- The self-delimited form differs only in that one length more is coded, which the plain form takes from the packet's end.
 -- Assumes nothing.
 use Prim.Native.Nat.{ℕ, _+_, _*_, _-_, _/_, _%_}
@@ -12,8 +12,8 @@ use Rattle.packet_toc.specs.Toc.{codeOf, frameSamples}
 use Rattle.packet_frames.specs.Frames.{Rule, R1, R2, R3, R4, R5, R6, R7, frameMax, samplesMax}
 use Rattle.packet_frames.specs.Frames.{Read, short, value, coded, codedTimes, paddingFrom}
 
--- how the frames of a packet stand in it: how many there are, whether each has a length of its own, the bytes of padding at
--- the end, what follows the bytes that tell this, and the rule that the lengths obey
+-- How the frames of a packet lie in it. A shape has the number of frames, whether each has a length of its own, and the
+-- bytes of padding at the end. It also has what follows the bytes that tell this, and the rule that the lengths obey.
 pub data Shape : Type 0 where
   broken : Rule → Shape
   shape : ℕ → Bool → ℕ → Bytes → Rule → Shape

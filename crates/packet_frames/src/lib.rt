@@ -1,4 +1,4 @@
-// One Opus packet (RFC 6716, 3 and Appendix B): how its frames stand in it.
+// One Opus packet (RFC 6716, 3 and Appendix B): how its frames lie in it.
 ghost use mathlib.Core.Bool.{true, false};
 ghost use lib.ListN.{length, drop};
 ghost use Rattle.packet_frames.specs.Frames.{frameMax, coded, codedTimes};
@@ -12,16 +12,16 @@ pub const FRAME_MAX: usize = 1275;
 // No packet has more samples, 120 ms (RFC 6716, 3.4, R5).
 const SAMPLES_MAX: usize = 5760;
 
-// A number read at a place, and the place after it.
 pub enum Found {
     Missing,
+    // a number read at a place, and the place after it
     Value(usize, usize),
 }
 
-// How the frames of a packet stand in it: how many, whether each has a length of its own, the bytes of padding at the end,
-// and the place of what follows.
+// How the frames of a packet lie in it.
 enum Layout {
     Illegal,
+    // how many, whether each has a length of its own, the bytes of padding at the end, and the place of what follows
     Frames {
         count: usize,
         vary: bool,

@@ -1,5 +1,5 @@
--- An audio packet of N streams (RFC 7845, 3 and 5.1.1; document 01, "Opus packets", refusals 13, 15 and 16): the first N - 1
--- Opus packets are self-delimited, each read from what the one before left, and the last one is not. Assumes nothing.
+-- An audio packet of N streams (RFC 7845, 3 and 5.1.1; RULES.md, 6, refusals 13, 15 and 16). The first N - 1 Opus packets
+-- are self-delimited, each read from what the one before left, and the last one is not. Assumes nothing.
 use Prim.Native.Nat.{ℕ, zero, suc, _*_, _-_}
 use mathlib.Core.Bool.{Bool, true, false, not, _&&_, _||_}
 use mathlib.Core.List.{List, [], _∷_}

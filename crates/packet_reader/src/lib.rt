@@ -9,20 +9,25 @@ use packet_frames::Found;
 use refusal::Refusal;
 
 pub enum PacketRead {
+    // the length in samples at 48 kHz
     Samples(u32),
+    // 13, 15 or 16
     Refused(Refusal),
 }
 
-// The length of a packet in samples, and the place after it.
 enum Measure {
     Illegal,
+    // the length of a packet in samples, and the place after it
     Samples(u32, usize),
 }
 
 // The lengths of the packets of some streams.
 enum Lengths {
+    // a packet is illegal
     Broken,
+    // all are legal, and they differ in length
     Mixed,
+    // the one length of all
     Same(u32),
 }
 
@@ -69,8 +74,9 @@ fn read_streams(s: &[u8], streams: u64) -> Lengths
     with_first(samples, later)
 }
 
-// The length in samples of an audio packet of so many streams. 13: the number of streams is not from 1 to 255. 15: one of
-// its Opus packets is illegal. 16: they differ in length.
+// The length in samples of an audio packet of so many streams. 13: the number of streams is not from 1 to 255. 15: not 13,
+// and one of its Opus packets is illegal. 16: neither, and they differ in length.
+// Example: `read_packet(&[0xfc], 1)`, one empty frame of 20 ms, gives `PacketRead::Samples(960)`.
 pub fn read_packet(bytes: &[u8], streams: u64) -> PacketRead
     ensures { λ r. ⌜ toldPacket r ≡ readPacket (now (bytes .entry)) streams ⌝ }
 {
@@ -97,7 +103,7 @@ fn is_single(bytes: &[u8]) -> bool
     (bytes.len() > 0) & ((bytes.len() < FRAME_MAX + 2) & (toc % 4 == 0))
 }
 
-// The same as `read_packet`. A packet of one frame is told at once, in so little code that it can stand in its caller's loop.
+// The same as `read_packet`. A packet of one frame is told at once, in so little code that it can be in its caller's loop.
 pub fn read_packet_quick(bytes: &[u8], streams: u64) -> PacketRead
     ensures { λ r. ⌜ toldPacket r ≡ readPacket (now (bytes .entry)) streams ⌝ }
 {

@@ -15,7 +15,7 @@ either : (t : Bool) {a b : ℕ} → FrameLength a → FrameLength b → FrameLen
 either true p q = p
 either false p q = q
 
--- a number as it stands
+-- a number as it is
 exact : (d : ℕ) → T (leb 120 d) → T (leb d 2880) → d % 120 ≡ 0 → FrameLength d
 exact d l m e = record { least = lit≤ l; most = lit≤ m; multiple = e }
 

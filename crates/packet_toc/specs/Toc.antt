@@ -1,4 +1,4 @@
--- The first byte of an Opus packet (RFC 6716, 3.1; document 01, "Opus packets"). Assumes nothing.
+-- The first byte of an Opus packet (RFC 6716, 3.1; RULES.md, 6). Assumes nothing.
 use Prim.Native.Nat.{ℕ, _/_, _%_}
 use lib.Dec.{ltb, eqb}
 use Rattle.octets.specs.Pick.{pick}

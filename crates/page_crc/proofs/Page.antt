@@ -20,7 +20,7 @@ pub page-crc-fits : PageCrcFits
 unfolding pageCrc
 page-crc-fits p = crc-fits (blank p)
 
--- another field f of four bytes leaves the length, and what stands before and after the field
+-- another field f of four bytes leaves the length, and what is before and after the field
 pub blank-same : BlankSame
 unfolding blank
 blank-same p f hp hf =

@@ -1,5 +1,5 @@
 -- Slicing with the right entries gives the checksum: what a byte puts into the register some bytes later is one entry, and
--- the rest of the register goes its own way. Assumes nothing.
+-- the rest of the register does not depend on it. Assumes nothing.
 use mathlib.Core.Path.{_≡_, refl, sym, ap, ap₂, _∙_}
 use mathlib.Core.Bool.{Bool, true, false}
 use mathlib.Core.List.{[], _∷_}

@@ -1,5 +1,5 @@
--- The page checksum of RFC 3533, section 6, field 7 (document 01, "Page and lacing", refusal 4): the register of
--- `page_crc_tables` over the page's bytes, start 0, no final change. Assumes nothing.
+-- The page checksum of RFC 3533, section 6, field 7 (RULES.md, 3, refusal 4): the register of `page_crc_tables` over the
+-- page's bytes, start 0, no final change. Assumes nothing.
 use Prim.Native.Nat.{ℕ, _+_, _-_}
 use mathlib.Core.List.{[], _∷_, _++_}
 use lib.ListN.{length, take, drop, replicate}

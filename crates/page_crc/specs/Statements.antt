@@ -26,7 +26,7 @@ PageCrcFits = (p : Bytes) → pageCrc p < 2 ^ 32
 abbrev pub withField : Bytes → Bytes → Bytes
 withField p f = take checksumAt p ++ f ++ drop checksumEnd p
 
--- what stands in the checksum field is not looked at (Page)
+-- what is in the checksum field is not looked at (Page)
 abbrev pub BlankSame : Type 0
 BlankSame = (p f : Bytes) → checksumEnd ≤ length p → length f ≡ 4 → blank (withField p f) ≡ blank p
 

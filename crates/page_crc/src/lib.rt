@@ -1,8 +1,8 @@
 // The checksum of an Ogg page (RFC 3533): polynomial 0x04c11db7, high bit first, start 0, no final change.
 // Defined bit by bit in specs/Crc.antt; computed here sixteen bytes a turn, by sixteen tables (specs/Sliced.antt).
 // The functions whose names end in `_with` take the tables from the caller, who makes them once by
-// `page_crc_tables::table::tables`; the others make them at each call, and for short inputs tables of half bytes, which take
-// longer to use but less to store.
+// `page_crc_tables::table::tables`. The others make them at each call. For short inputs they make tables of half bytes, which
+// take longer to use but less to store.
 ghost use mathlib.Core.Path.{_≡_};
 ghost use Prim.Native.Nat.{_+_, _≤_, _<_};
 ghost use lib.ListN.{length, take, drop};
@@ -162,6 +162,7 @@ fn short_checksum(s: &[u8]) -> u32
     half_update(&halves, 0, s)
 }
 
+// The checksum of the bytes as they are. It refuses nothing.
 pub fn checksum(s: &[u8]) -> u32
     ensures { λ x. ⌜ x ≡ crc 0 (now (s .entry)) ⌝ }
 {
@@ -173,8 +174,8 @@ pub fn checksum(s: &[u8]) -> u32
 }
 
 // The register after the bytes of a page up to the end of its checksum field, as `update` goes through those before the
-// field and through the field, with the sizes of the blocks written out, so that the compiler needs no loop for them: it
-// counts for short pages.
+// field and through the field. The sizes of the blocks are written out, so that the compiler needs no loop for them. This
+// saves time on short pages.
 fn head_checksum(tables: &[u32; 4096], page: &[u8]) -> u32
     requires { ⌜ checksumEnd ≤ length (now page) ⌝ }
     ensures { λ x. ⌜ x ≡ headSliced (entryIn (now (tables .entry))) (now (page .entry)) ⌝ }
@@ -186,8 +187,8 @@ fn head_checksum(tables: &[u32; 4096], page: &[u8]) -> u32
     block(tables, third, &zeros, 0, 4)
 }
 
-// The same of a page, its own checksum field taken as zeros. Of a shorter slice, those of the field's four bytes that it
-// has are taken as zeros: a slice that ends before the field gives the checksum of its bytes as they are.
+// The checksum of a page, its own checksum field taken as zeros. Of a shorter slice, those of the field's four bytes that it
+// has are taken as zeros: a slice that ends before the field gives the checksum of its bytes as they are. It refuses nothing.
 pub fn page_checksum_with(tables: &[u32; 4096], page: &[u8]) -> u32
     ensures { λ x. ⌜ x ≡ pageSliced (entryIn (now (tables .entry))) (now (page .entry)) ⌝ }
 {
@@ -222,6 +223,7 @@ fn short_page_checksum(page: &[u8]) -> u32
     half_update(&halves, field, &page[b..])
 }
 
+// The same as `page_checksum_with`, by tables made here.
 pub fn page_checksum(page: &[u8]) -> u32
     ensures { λ x. ⌜ x ≡ pageCrc (now (page .entry)) ⌝ }
 {

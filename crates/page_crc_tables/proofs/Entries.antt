@@ -1,4 +1,4 @@
--- The rules of the tables of bytes and of half bytes, each at all entries by one test that antt computes: the first table
+-- The rules of the tables of bytes and of half bytes, each at all entries by one test that antt computes. The first table
 -- has some registers moved by eight bits, and each later one the table before it moved by eight more. Assumes nothing.
 use mathlib.Core.Path.{_≡_, refl, sym, ap, _∙_}
 use mathlib.Core.Bool.{Bool, true, false}

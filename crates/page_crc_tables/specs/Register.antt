@@ -1,5 +1,5 @@
--- The register of the page checksum of RFC 3533, section 6, field 7: 32 bits, moved one bit at a time, high bit first.
--- Assumes nothing.
+-- The register of the page checksum of RFC 3533, section 6, field 7 (RULES.md, 3): 32 bits, moved one bit at a time, high bit
+-- first. Assumes nothing.
 use Prim.Native.Nat.{ℕ, zero, suc, _*_, _/_, _%_, _^_}
 use lib.Bits.{bitXor}
 

@@ -1,4 +1,4 @@
--- What is proved of the tables, beside the contracts. Assumes nothing.
+-- What is proved of the tables, in addition to the contracts. Assumes nothing.
 use mathlib.Core.List.{List}
 use Prim.Native.Nat.{ℕ}
 use Rattle.page_crc_tables.specs.Table.{Right, RightHalves, halfEntryIn}

@@ -1,4 +1,4 @@
--- What is proved of where a page ends, beside the contract. Assumes nothing.
+-- What is proved of where a page ends, in addition to the contract. Assumes nothing.
 use Prim.Native.Nat.{ℕ, _≤_, _<_}
 use mathlib.Core.Path.{_≡_}
 use mathlib.Core.Bool.{false}
@@ -16,6 +16,6 @@ pub record Inside (at e n : ℕ) : Type 0 where
 abbrev pub EndInside : Type 0
 EndInside = (b : Bytes) (at e : ℕ) → endAt b at ≡ some e → Inside at e (length b)
 
--- the bytes from a cut on are no whole page: fed as they stand, they are refused as no page (3), or after an end (2)
+-- the bytes from a cut on are no whole page: fed as they are, they are refused as no page (3), or after an end (2)
 abbrev pub CutIsNoPage : Type 0
 CutIsNoPage = (b : Bytes) (at : ℕ) → endAt b at ≡ none → isOnePage (drop at b) ≡ false

@@ -3,13 +3,15 @@ ghost use mathlib.Core.Path.{_≡_};
 ghost use Rattle.page_end.specs.End.{endAt, foundEnd};
 use page_size::Extent;
 
-// The place after the page, or the page is not whole in the buffer.
 pub enum End {
+    // the place after the page
     At(usize),
+    // the page is not whole in the buffer
     Cut,
 }
 
-// Bytes that begin no page are fed as they stand, to be refused.
+// Where the page that starts at place `at` of the buffer ends. It refuses nothing: 27 bytes or more that begin no page are
+// taken up to the end of the buffer, and feeding refuses them. Where fewer than 27 bytes are left, the answer is `Cut`.
 pub fn end_at(buffer: &[u8], at: usize) -> End
     ensures { λ r. ⌜ foundEnd r ≡ endAt (now (buffer .entry)) at ⌝ }
 {

@@ -1,4 +1,4 @@
--- The flags of a page: 1 continued, 2 first, 4 last (RFC 3533, 6; document 01, "Page and lacing"). Assumes nothing.
+-- The flags of a page: 1 continued, 2 first, 4 last (RFC 3533, 6; RULES.md, 3). Assumes nothing.
 use Prim.Native.Nat.{ℕ, _/_, _%_}
 use mathlib.Core.Bool.{Bool}
 use lib.Dec.{eqb}

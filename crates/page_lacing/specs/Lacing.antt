@@ -1,5 +1,5 @@
--- The pieces of a lacing list: a value of 255 goes on, a smaller one ends a packet (RFC 3533, 5 and 6; document 01,
--- "Page and lacing"). Assumes nothing.
+-- The pieces of a lacing list: a value of 255 goes on, a smaller one ends a packet (RFC 3533, 5 and 6; RULES.md, 3). Assumes
+-- nothing.
 use Prim.Native.Nat.{ℕ, _+_, _≤_}
 use mathlib.Core.Path.{_≡_}
 use mathlib.Core.Bool.{Bool, _&&_}

@@ -1,5 +1,5 @@
--- The fields of a page by their places (RFC 3533, 6; document 01, "Page and lacing"). A place past the end of the bytes
--- reads as zero, so that each field is there for any bytes. Assumes nothing.
+-- The fields of a page by their places (RFC 3533, 6; RULES.md, 3). A place past the end of the bytes reads as zero, so that
+-- each field is there for any bytes. Assumes nothing.
 use Prim.Native.Nat.{ℕ, _+_}
 use mathlib.Core.Bool.{Bool}
 use lib.ListN.{getD, take, drop}

@@ -1,4 +1,4 @@
--- Where the fields of a page stand (RFC 3533, 6; document 01, "Page and lacing"). Assumes nothing.
+-- Where the fields of a page are (RFC 3533, 6; RULES.md, 3). Assumes nothing.
 use Prim.Native.Nat.{ℕ}
 use mathlib.Core.List.{[], _∷_}
 use Rattle.octets.specs.Octets.{Bytes}

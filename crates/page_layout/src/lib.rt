@@ -1,4 +1,4 @@
-// The parts of an Ogg page by their places (RFC 3533, 6): its fields, its lacing values, its body. These places stand here
+// The parts of an Ogg page by their places (RFC 3533, 6): its fields, its lacing values, its body. These places are here
 // and in specs/Places.antt, and everything else cites them.
 ghost use mathlib.Core.Path.{_≡_};
 ghost use Rattle.octets.specs.Octets.{Widened};

@@ -1,4 +1,4 @@
--- What is told of the pieces of a lacing list (RFC 3533, 5 and 6; document 01, "Page and lacing"). Assumes nothing.
+-- What is told of the pieces of a lacing list (RFC 3533, 5 and 6; RULES.md, 3). Assumes nothing.
 use Prim.Native.Nat.{_-_}
 use mathlib.Core.Path.{_≡_}
 use mathlib.Core.List.{_++_}

@@ -1,4 +1,4 @@
--- What is proved of the pieces of a page, beside the contract. Assumes nothing.
+-- What is proved of the pieces of a page, in addition to the contract. Assumes nothing.
 use mathlib.Core.Path.{_≡_}
 use mathlib.Core.List.{List, [], _∷_, _++_, map}
 use lib.ListN.{length}

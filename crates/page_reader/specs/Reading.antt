@@ -1,5 +1,5 @@
--- Reading a page (document 01, refusals 3 and 4; RFC 3533, 6). How a page's checksum is worked out is a parameter: the
--- checksum itself, or what lent tables give. Assumes nothing.
+-- Reading a page (RULES.md, refusals 3 and 4; RFC 3533, 6). How a page's checksum is worked out is a parameter: the checksum
+-- itself, or what lent tables give. Assumes nothing.
 use Prim.Native.Nat.{ℕ}
 use mathlib.Core.Bool.{not}
 use mathlib.Core.List.{List, [], _∷_}

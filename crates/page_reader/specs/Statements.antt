@@ -1,4 +1,4 @@
--- What is proved of pages, beside the contracts. Assumes nothing.
+-- What is proved of pages, in addition to the contracts. Assumes nothing.
 use Prim.Native.Nat.{ℕ}
 use mathlib.Core.Path.{_≡_}
 use mathlib.Core.List.{List}

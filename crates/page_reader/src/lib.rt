@@ -9,7 +9,9 @@ use page_layout::PageHeader;
 use refusal::Refusal;
 
 pub enum PageRead {
+    // the fields of the page
     Page(PageHeader),
+    // 3 or 4
     Refused(Refusal),
 }
 
@@ -27,8 +29,9 @@ pub fn read_page_with(tables: &[u32; 4096], page: &[u8]) -> PageRead
     PageRead::Page(page_layout::header_of(page))
 }
 
-// The fields of the page that the bytes are. 3: they are not exactly one whole page, or its version is not 0. 4: the
-// checksum differs. Flags above 7 are read as they are.
+// The fields of the page that the bytes are. 3: they are not exactly one whole page, or its version is not 0. 4: not 3, and
+// the checksum differs. Flags above 7 are read as they are.
+// Example: "OggS" and 23 zero bytes are refused by 4. After `page_writer::renew_checksum` they are a page of no lacing values.
 pub fn read_page(page: &[u8]) -> PageRead
     ensures { λ r. ⌜ toldRead r ≡ readPage pageCrc (now (page .entry)) ⌝ }
 {

@@ -1,5 +1,5 @@
--- Where the page that starts at a place of a buffer would end (RFC 3533, 6). The version and the checksum are not looked
--- at. Assumes nothing.
+-- Where the page that starts at a place of a buffer would end (RFC 3533, 6; RULES.md, 3). The version and the checksum are not
+-- looked at. Assumes nothing.
 use Prim.Native.Nat.{ℕ, _+_}
 use mathlib.Core.Bool.{not}
 use lib.Dec.{ltb}

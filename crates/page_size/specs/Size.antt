@@ -1,4 +1,4 @@
--- How long a page is, and when bytes are one (RFC 3533, 6; document 01, refusal 3). Assumes nothing.
+-- How long a page is, and when bytes are one (RFC 3533, 6; RULES.md, refusal 3). Assumes nothing.
 use Prim.Native.Nat.{ℕ, _+_, _≤_}
 use mathlib.Core.Path.{_≡_}
 use mathlib.Core.Bool.{Bool, _&&_}

@@ -6,11 +6,13 @@ ghost use Rattle.page_size.specs.Extent.{extentIn, pageExtent, toldExten
 use page_layout::LACING_AT;
 use page_layout::VERSION_AT;
 
-// Where a page would end: at a place of the buffer or past it; not to be told yet, since its header or its lacing values
-// are not all there; or nowhere, since no page starts here.
+// Where a page would end.
 pub enum Extent {
+    // at a place of the buffer or past it
     Ends(usize),
+    // not to be told yet: its header or its lacing values are not all there
     Short,
+    // nowhere: no page starts here
     NoPage,
 }
 

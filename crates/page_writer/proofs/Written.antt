@@ -1,4 +1,4 @@
--- The bytes of a written page: where each field stands, how long the page is, and its checksum. Assumes nothing.
+-- The bytes of a written page: where each field is, how long the page is, and its checksum. Assumes nothing.
 use mathlib.Core.Path.{_≡_, refl, sym, _∙_}
 use mathlib.Core.Bool.{true}
 use mathlib.Core.List.{_∷_, _++_}

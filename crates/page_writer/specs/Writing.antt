@@ -1,5 +1,4 @@
--- Writing a page (document 01, refusals 23 and 22, "Page and lacing"; RFC 3533, 6), and a page's checksum computed again.
--- Assumes nothing.
+-- Writing a page (RULES.md, 3, refusals 23 and 22; RFC 3533, 6), and a page's checksum computed again. Assumes nothing.
 use Prim.Native.Nat.{ℕ, _+_}
 use mathlib.Core.Path.{_≡_}
 use mathlib.Core.Bool.{not}

@@ -11,11 +11,13 @@ use page_layout::PageHeader;
 use refusal::Refusal;
 
 pub enum PageWritten {
+    // how many bytes were written
     Bytes(usize),
+    // 23 or 22
     Refused(Refusal),
 }
 
-// Puts the page's checksum into its field. Bytes that end before the field's end stay as they are.
+// Puts the page's checksum into its field. It refuses nothing: bytes that end before the field's end stay as they are.
 pub fn renew_checksum(page: &mut [u8])
     ensures { λ _. ⌜ now (page .exit) ≡ withChecksum (now (page .entry)) ⌝ }
 {
@@ -78,7 +80,9 @@ fn put_page(h: PageHeader, lacing: &[u8], body: &[u8], out: &mut [u8])
 }
 
 // The page of these fields, lacing values and body, written to the start of `out`. 23: more than 255 values, values that
-// do not sum to the body's length, or flags above 7. 22: `out` is shorter than the page. On refusal nothing is written.
+// do not sum to the body's length, or flags above 7. 22: not 23, and `out` is shorter than the page. On refusal nothing is
+// written.
+// Example: `write_page(h, &[3], b"abc", &mut out)` gives `PageWritten::Bytes(31)`, where the flags and `out` allow it.
 pub fn write_page(h: PageHeader, lacing: &[u8], body: &[u8], out: &mut [u8]) -> PageWritten
     ensures { λ r. ⌜ Wrote h (now (lacing .entry)) (now (body .entry)) (now (out .entry)) r (now (out .exit)) ⌝ }
 {

@@ -1,5 +1,4 @@
--- What starting, opening part way and feeding answer, by the rules of a stream (document 01, "Refusals by number").
--- Assumes nothing.
+-- What starting, opening part way and feeding answer, by the rules of a stream (RULES.md, 7). Assumes nothing.
 use Rattle.refusal.specs.Numbers.{numberOf}
 use Rattle.refusal.specs.Told.{Told, gives, refuses}
 use Rattle.stream.specs.Feed.{Reader as Known, Taken, readerOf}

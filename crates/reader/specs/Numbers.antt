@@ -1,4 +1,5 @@
--- A reader in sixteen numbers: what opening part way and feeding answer, and the numbers at the end. Assumes nothing.
+-- A reader in sixteen numbers (RULES.md, 14): what opening part way and feeding answer, and the numbers at the end. Assumes
+-- nothing.
 use Prim.Native.Nat.{ℕ}
 use mathlib.Core.Path.{_≡_}
 use mathlib.Core.List.{List}
@@ -26,7 +27,7 @@ abbrev pub toldOpenedIn : StateOpened → List ℕ → Told Reader
 toldOpenedIn Done new = gives (readerFrom new)
 toldOpenedIn (NotOpened why) new = refuses (numberOf why)
 
--- the answer r, and the numbers from `old` to `new`: they stand for the reader that was opened
+-- the answer r, and the numbers from `old` to `new`: they represent the reader that was opened
 pub record StateOpenedIs (f : Told Reader) (r : StateOpened) (old new : List ℕ) : Type 0 where
   pub told : toldOpenedIn r new ≡ f
   pub numbers : new ≡ numbersOpened f old
@@ -43,8 +44,8 @@ abbrev pub numbersAfter : Told Taken → List ℕ → List ℕ
 numbersAfter (gives t) old = numbersOf (t .reader)
 numbersAfter (refuses n) old = old
 
--- the answer r, the numbers from `old` to `new`, and the lent memory at the end are those of f; the numbers stand for the next
--- reader
+-- the answer r, the numbers from `old` to `new`, and the lent memory at the end are those of f; the numbers represent the
+-- next reader
 pub record StateFedIs (f : Fed) (r : StateFed) (old new : List ℕ) (after : Lent) : Type 0 where
   pub fed : FedIs f (toldIn r new) after
   pub numbers : new ≡ numbersAfter (f .told) old

@@ -27,17 +27,22 @@ pub struct Reader {
 }
 
 pub enum Opened {
+    // a reader that waits for an audio page
     At(Reader),
+    // 23
     Refused(Refusal),
 }
 
 pub enum Fed {
+    // the next reader, and the page's own record
     Accepted(Reader, Counts),
+    // 1 to 19
     Refused(Refusal),
 }
 
 // ---- readers
 
+// A reader that waits for the first page of a stream. It refuses nothing.
 pub fn start() -> Reader
     ensures { λ r. ⌜ knownAs r ≡ started ⌝ }
 {
@@ -47,7 +52,8 @@ pub fn start() -> Reader
     }
 }
 
-// A reader that begins at any audio page of a stream with this header. 23: fields that a reading would refuse.
+// A reader that waits for any audio page of a stream with this header. It skips no samples. 23: `head_writer::write_head`
+// would refuse the fields by 23.
 pub fn open(head: Head) -> Opened
     ensures { λ r. ⌜ toldOpened r ≡ openPartWay head ⌝ }
 {
@@ -102,9 +108,13 @@ fn fed_of(fed: PageFed) -> Fed
     }
 }
 
-// Feeds one page to a reader: the next reader and the page's own record, or the lowest refusal of 1 to 19, which leaves the
-// reader and the three lists as they were. The carry buffer has to hold, up to the held count, what the last feeding left
-// there. Of an accepted page the lists show the end stamp, the length and the kept count of each packet.
+// Feeds one page to a reader: the next reader and the page's own record, or a refusal of 1 to 19. The lowest number that
+// holds is told, but 19 and 18 before 17, and for each packet in turn 15 before 16. 1: the carry buffer has fewer than
+// 61,440 bytes, or a list fewer than 255 places.
+// The carry buffer has to hold, up to the held count, what the last feeding left there. Of an accepted page the lists show,
+// from place 0 on, the end stamp, the length and the kept count of each packet. A refusal leaves the lists as they were. One
+// of 12 to 19 may leave the page's first piece in the carry buffer, after the held bytes.
+// Example: a right first page fed to `start()` gives `Fed::Accepted(next, counts)`, and the second page is fed to `next`.
 pub fn feed(
     reader: Reader,
     page: &[u8],
@@ -150,23 +160,27 @@ pub fn feed_with(
 // ---- a reader as sixteen numbers
 
 pub enum StateOpened {
+    // the numbers are those of the reader
     Done,
+    // 23
     Refused(Refusal),
 }
 
 pub enum StateFed {
+    // the page's own record; the numbers are those of the next reader
     Accepted(Counts),
+    // 1 to 19
     Refused(Refusal),
 }
 
-// The numbers of a reader just started.
+// The numbers of a reader just started. It refuses nothing.
 pub fn start_state() -> [u64; 16]
     ensures { λ r. ⌜ StandFor r started ⌝ }
 {
     feed_numbers::numbers_of(feed_start::start_core(), Tally { skip: 0 })
 }
 
-// The same as `open`, into sixteen numbers. A refusal changes none.
+// The same as `open`, into sixteen numbers. A refusal, of 23, changes none.
 pub fn open_state(head: Head, state: &mut [u64; 16]) -> StateOpened
     ensures { λ r. ⌜ StateOpenedIs (openPartWay head) r (now (state .entry)) (now (state .exit)) ⌝ }
 {

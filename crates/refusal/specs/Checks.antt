@@ -1,5 +1,4 @@
--- Checks in their order, and the first that refuses (document 01, "Feeding a page checks .. in this order").
--- Assumes nothing.
+-- Checks in their order, and the first that refuses (RULES.md, 7). Assumes nothing.
 use mathlib.Core.Bool.{Bool}
 use mathlib.Core.List.{List, [], _∷_}
 use mathlib.Core.Option.{Option, none, some}

@@ -1,4 +1,4 @@
--- The number of each refusal (document 01, "Refusals by number"). Assumes nothing.
+-- The number of each refusal (RULES.md, 2). Assumes nothing.
 use Prim.Native.Nat.{ℕ}
 use Rattle.refusal.specs.declared.Refusal.{Refusal}
 use Rattle.refusal.specs.declared.Refusal.the-variants.{ShortRoom, AfterEnd, NotOnePage, WrongChecksum}

@@ -1,5 +1,5 @@
--- What a call tells: what it gives, or a refusal's number and nothing else (document 01, "A refusal returns its number
--- only"). The promise of every function that can refuse goes through this. Assumes nothing.
+-- What a call tells: what it gives, or a refusal's number and nothing else (RULES.md, 2). The contract of every function that
+-- can refuse uses this. Assumes nothing.
 use Prim.Native.Nat.{ℕ}
 use mathlib.Core.Option.{Option, none, some}
 use Rattle.refusal.specs.declared.Refusal.{Refusal}

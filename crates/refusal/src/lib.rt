@@ -1,34 +1,59 @@
-// The refusals of the whole library, by name. docs/PROMISES.md restates the occasion of each number.
+// The refusals of the whole library, by name. RULES.md, 2, has the exact occasion of each.
 ghost use mathlib.Core.Path.{_≡_};
 ghost use Rattle.refusal.specs.Numbers.{numberOf};
 
 pub enum Refusal {
+    // 1: the carry buffer or a list is too short
     ShortRoom,
+    // 2: a page marked last was accepted before
     AfterEnd,
+    // 3: the bytes are not exactly one whole page, or its version is not 0
     NotOnePage,
+    // 4: the checksum differs
     WrongChecksum,
+    // 5: the serial differs from that of the first page
     OtherSerial,
+    // 6: the sequence number is not the one that is due
     OutOfSequence,
+    // 7: an unknown flag is set, or the first mark or the end mark is wrong
     WrongFlags,
+    // 8: the continued mark is set and no packet is unfinished, or the other way round
     WrongContinued,
+    // 9: a packet would pass 61,440 bytes
     PacketTooLong,
+    // 10: the first page is not one completed packet, or a page of the comment header is empty or holds anything else
     HeaderShape,
+    // 11: the granule position is wrong for what completes on the page
     WrongGranule,
+    // 12: the identification header's signature, version or length is wrong
     BadHead,
+    // 13: its channel mapping is wrong, or a number of streams is not from 1 to 255
     BadMapping,
+    // 14: the packet is no comment header
     BadTags,
+    // 15: an Opus packet is illegal
     IllegalPacket,
+    // 16: the Opus packets of an audio packet differ in length
     MixedLengths,
+    // 17: the granule position is too small for the packets that complete on the page
     GranuleTooSmall,
+    // 18: the first page where a packet completes is marked last, and its granule position is below the pre-skip
     BelowPreSkip,
+    // 19: the reader was opened part way, and its first page where a packet completes is marked last
     NoPosition,
+    // 20: the comment header has no such comment
     NoSuchComment,
+    // 21: the comment's value is no gain
     BadGain,
+    // 22: the output is too short
     ShortOutput,
+    // 23: what is to be written, or the header to open a reader with, is wrong
     UnfitFields,
+    // 30: no packet has the length, or the exact count would pass 2^63 - 1
     ClockRange,
 }
 
+// The number of a refusal.
 pub fn number(r: Refusal) -> u8
     ensures { λ n. ⌜ n ≡ numberOf r ⌝ }
 {

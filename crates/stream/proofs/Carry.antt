@@ -36,7 +36,7 @@ pub fresh : (b c : Bytes) → length b ≤ length c → take (length b) (copied 
 fresh b c h =
     ap (take (length b)) (copied-fits c 0 b (omega arith)) ∙ rw (take-length b) (take-append-seam b (drop (0 + length b) c))
 
--- what stands before the copy stays
+-- what is before the copy stays
 stays-before : (n : ℕ) (b c : Bytes) → n + length b ≤ length c → take n (copied c n b) ≡ take n c
 stays-before n b c h =
     let e : length (take n c) ≡ n = length-take-le n c (omega arith) in
@@ -47,7 +47,7 @@ stays-before n b c h =
     ∙ take-append-le n (take n c) (take (length b) b) low
     ∙ take-take n n c (le-refl n)
 
--- and the copy stands after it
+-- and the copy is after it
 pub joined-there : (n : ℕ) (b c : Bytes) → n + length b ≤ length c → take (n + length b) (copied c n b) ≡ take n c ++ b
 joined-there n b c h =
     ap (take (n + length b)) (copied-fits c n b h)

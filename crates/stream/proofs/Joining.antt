@@ -1,4 +1,4 @@
--- A reader opened part way, over the stream's pages: the simulation behind demand 3, on states alone. Assumes nothing.
+-- A reader opened part way, over the stream's pages: the simulation for demand 3, on states alone. Assumes nothing.
 use Prim.Native.Nat.{ℕ, _+_, _%_, _^_}
 use mathlib.Core.Path.{_≡_, refl, sym, ap, ap₂, _∙_, subst}
 use mathlib.Core.Bool.{Bool, true, false, not, _&&_, _||_, false≢true}
@@ -81,7 +81,7 @@ Sim R h xs =
     → Follows R (audio ended cr position serial next h) xs
     → toldAll R (audio ended cq Joined serial next h) (bytesOf xs) ≡ joinedFrom (isDropped cq) false xs
 
--- the states at the end, if a page gave a granule position to stand on
+-- the states at the end, if a page gave a granule position to count from
 abbrev SimState : Readings → Head → List Shown → Type 0
 SimState R h xs =
     (ended : Bool) (cr cq : Carried) (position : Position) (serial next : ℕ) → Near cr cq → NotJoined position

@@ -1,4 +1,4 @@
--- Lists of feedings as runs of the state that decides: refused feedings leave no trace. Assumes nothing.
+-- Lists of feedings as runs of the state that decides: refused feedings change nothing. Assumes nothing.
 use Prim.Native.Nat.{ℕ}
 use mathlib.Core.Path.{_≡_, refl, sym, ap, ap₂, subst, _∙_}
 use mathlib.Core.Bool.{Bool, true, false, _||_, false≢true, true≢false}

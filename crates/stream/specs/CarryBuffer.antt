@@ -1,5 +1,5 @@
--- What a feeding leaves in the carry buffer, byte for byte, by the page's segments alone (demand 1), and which numbers it
--- tells. Assumes nothing.
+-- What a feeding leaves in the carry buffer, byte for byte, by the page's segments alone (RULES.md, 7; demand 1), and which
+-- numbers it tells. Assumes nothing.
 use Prim.Native.Nat.{ℕ, _+_, _≤_, _<_}
 use mathlib.Core.Path.{_≡_}
 use mathlib.Core.Bool.{Bool, false, not, _&&_, _||_}

@@ -1,5 +1,6 @@
 -- A second reader that joins a stream with no granule position, its sequence numbers shifted: from the first page on that
--- completes a packet the two are one, but for the shift. This is what cropping a stream rests on. Assumes nothing.
+-- completes a packet their states are equal, but for the shift. Cropping a stream depends on this (RULES.md, 9). Assumes
+-- nothing.
 use Prim.Native.Nat.{ℕ, _<_, _^_}
 use mathlib.Core.Path.{_≡_}
 use mathlib.Core.Bool.{Bool, true, false}
@@ -43,7 +44,7 @@ pub record Entrance (p : Page) : Type 0 where
   pub goes : last p ≡ false
 
 -- r is among the audio pages, whatever its granule position, and takes the page: so does s, with the same stamps and lengths,
--- and their states after it are one but for the shift
+-- and their states after it are equal but for the shift
 abbrev pub Enters : Type 0
 Enters =
     (R : Readings) (n : ℕ) (r s : Reader) (f g : Feeding) (t : Taken) → r .core .phase ≡ Audio → r .core .next < 2 ^ 32
@@ -74,7 +75,7 @@ pub record AlikeAll (R : Readings) (n : ℕ) (r s : Reader) (c d : Bytes) (F G :
   pub told : tells R s G ≡ tells R r F
   pub stays : viewOf (finally R s G) (carryLeft R s d G) ≡ stateShifted n (viewOf (finally R r F) (carryLeft R r c F))
 
--- two readers that are one but for the shift stay so: T2 over lists
+-- two readers whose states are equal but for the shift stay so: T2 over lists
 abbrev pub StaysAlike : Type 0
 StaysAlike =
     (R : Readings) (n : ℕ) (r s : Reader) (c d : Bytes) (xs : List (Pair R n))

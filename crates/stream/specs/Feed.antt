@@ -1,5 +1,5 @@
--- Starting, opening part way and feeding: what each tells, the next reader, and the end contents of the carry buffer and of
--- the three lists, for any reader, bytes and lent memory (document 01, "Refusals by number"). Assumes nothing.
+-- Starting, opening part way and feeding: what each tells, the next reader, and the end contents of the carry buffer and of the
+-- three lists, for any reader, bytes and lent memory (RULES.md, 7). Assumes nothing.
 use Prim.Native.Nat.{ℕ, _+_, _-_}
 use mathlib.Core.Path.{_≡_}
 use mathlib.Core.Bool.{Bool, not, _||_}
@@ -242,7 +242,7 @@ fedBy (some n) R r m t p x = record {
   lent = record { carry = carryAfter (some n) t p (m .carry); ends = m .ends; lengths = m .lengths; kept = m .kept };
 }
 
--- 1 to 19, in the order of document 01's table
+-- 1 to 19, in the order of RULES.md, 7
 abbrev pub feedChecks : Readings → Lent → State → Bytes → Seen → List Check
 feedChecks R m t b x = ShortRoom when isShort m ∷ checksOn R t b x
 

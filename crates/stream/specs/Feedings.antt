@@ -112,7 +112,7 @@ abbrev pub isRefused : Told Taken → Bool
 isRefused (gives t) = false
 isRefused (refuses n) = true
 
--- each feeding without a mark is refused where it stands; nothing is asked of a marked one
+-- each feeding without a mark is refused where it is; nothing is asked of a marked one
 unfoldable pub OthersRefused : Readings → Reader → List Marked → Type 0
 OthersRefused R r [] = Unit {0}
 OthersRefused R r (m ∷ ms) =

@@ -1,5 +1,4 @@
--- The memory that is lent to a feeding: a carry buffer and three lists (document 01, "Numbers that bound the work", refusal 1).
--- Assumes nothing.
+-- The memory that is lent to a feeding: a carry buffer and three lists (RULES.md, 1, refusal 1). Assumes nothing.
 use Prim.Native.Nat.{ℕ}
 use mathlib.Core.Bool.{Bool, _||_}
 use mathlib.Core.List.{List}

@@ -1,4 +1,4 @@
--- A page's pieces joined to what is carried (document 01, refusals 9, 15 and 16). Assumes nothing.
+-- A page's pieces joined to what is carried (RULES.md, refusals 9, 15 and 16). Assumes nothing.
 use Prim.Native.Nat.{ℕ, _+_}
 use mathlib.Core.Bool.{Bool, true, false, _||_}
 use mathlib.Core.List.{List, [], _∷_, _++_, map}

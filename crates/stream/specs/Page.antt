@@ -1,5 +1,5 @@
 -- A page as feeding sees it: its fields, its lacing values and its body, and the pieces of packets in it (RFC 3533, 5 and 6;
--- document 01, "Page and lacing"). Assumes nothing.
+-- RULES.md, 3). Assumes nothing.
 use Prim.Native.Nat.{ℕ}
 use mathlib.Core.Bool.{Bool, false, _||_}
 use mathlib.Core.List.{List, [], _∷_}

@@ -1,5 +1,5 @@
--- What feeding asks of pages, headers and packets: parameters of all that follows, and the real ones (document 01, refusals
--- 3, 4 and 12 to 16). Assumes nothing.
+-- What feeding asks of pages, headers and packets: parameters of all that follows, and the real ones (RULES.md, refusals 3,
+-- 4 and 12 to 16). Assumes nothing.
 use Prim.Native.Nat.{ℕ, _-_}
 use mathlib.Core.Bool.{Bool, not}
 use lib.Dec.{eqb}

@@ -1,6 +1,5 @@
--- The rules of one page over the state that decides: which refusal, and what state follows (document 01, "Refusals by
--- number", "Stamps and cuts", "Opened part way"). The carry buffer, the lists and the counts come in `Feed`. Assumes
--- nothing.
+-- The rules of one page over the state that decides: which refusal, and what state follows (RULES.md, 7 to 9). The carry
+-- buffer, the lists and the counts come in `Feed`. Assumes nothing.
 use Prim.Native.Nat.{ℕ, _+_, _-_, _%_, _^_}
 use mathlib.Core.Bool.{Bool, true, false, not, _&&_, _||_, Bool·beq}
 use mathlib.Core.List.{List, [], _∷_, _++_}

@@ -1,4 +1,4 @@
--- Whether a page is one packet's piece and nothing else, by its lacing values (document 01, refusal 10). Assumes nothing.
+-- Whether a page is one packet's piece and nothing else, by its lacing values (RULES.md, refusal 10). Assumes nothing.
 use mathlib.Core.Bool.{Bool, true, false, not, _&&_, _||_}
 use mathlib.Core.List.{[], _∷_}
 use lib.Dec.{ltb}

@@ -1,5 +1,5 @@
--- The state that decides: what a reader has, with the held bytes in it, and what it expects of its next page (document 01,
--- "Refusals by number" and "Opened part way"). Assumes nothing.
+-- The state that decides: what a reader has, with the held bytes in it, and what it expects of its next page (RULES.md, 7 and
+-- 9). Assumes nothing.
 use Prim.Native.Nat.{ℕ}
 use mathlib.Core.Bool.{Bool, true, false, _||_}
 use Rattle.octets.specs.Pick.{pick}
@@ -62,8 +62,8 @@ unfinished (held n h) = true
 
 -- What the state expects of its next page. The first page of all may have any serial; its sequence is 0, and it continues
 -- nothing. The first page of a reader opened part way may have any serial, sequence and continued mark; marked so, it
--- continues a packet that is dropped. The checks look at the state so made, and so never speak of a reader opened part way,
--- but for 19.
+-- continues a packet that is dropped. The checks look at the state so made, and so never ask whether a reader was opened
+-- part way, but for 19.
 abbrev pub expectingIn : Phase → State → Page → State
 expectingIn First s p = record {
   phase = First;

@@ -67,8 +67,8 @@ StreamState =
     (R : Readings) (F : List Feeding) → HandedOn R start [] F
     → Determined R (stream R start F) (finally R start F) (carryLeft R start [] F)
 
--- ---- T2: two readers with equal cores and equal carry bytes up to the held count answer alike, and stay so; with the
--- second one's sequence number n further on, modulo 2^32, so long as its page's is
+-- ---- T2: two readers with equal cores and equal carry bytes up to the held count answer alike, and stay so. The
+-- second one's sequence number may be n further on, modulo 2^32, so long as its page's is
 
 abbrev pub shifted : ℕ → ℕ → ℕ
 shifted n q = (q + n) % 2 ^ 32
@@ -143,8 +143,8 @@ beganBefore R F j = openAfter false (bytesOf (take j (audioIn R F)))
 abbrev pub openedIn : Readings → List Feeding → Reader
 openedIn R F = openAt (headOf R (bytesOf (stream R start F)))
 
--- the feedings F to the first reader and M to the second: each gets the reader, and the held bytes, as the last left them;
--- those marked in M are the stream from its audio page j on, and have the room asked; the others are refused
+-- The feedings F to the first reader and M to the second: each gets the reader, and the held bytes, as the last left them.
+-- Those marked in M are the stream from its audio page j on, and have the room asked. The others are refused.
 pub record Followed (R : Readings) (F : List Feeding) (j : ℕ) (M : List Marked) : Type 0 where
   pub first : HandedOn R start [] F
   pub second : HandedOn R (openedIn R F) [] (allOf M)
@@ -171,7 +171,7 @@ ContinuedSays =
     (R : Readings) (F : List Feeding) (j : ℕ) (x : Shown) (later : List Shown) → HandedOn R start [] F
     → drop j (audioIn R F) ≡ x ∷ later → continued (pageOf (x .bytes)) ≡ beganBefore R F j
 
--- ---- T4, the last part of demand 3: the counts told are those of the samples, one by one; and from the first page that
+-- ---- T4, the last part of demand 3: the counts told are those of the samples, one by one. From the first page that
 -- completes an audio packet on, the number of samples kept has a closed form
 
 abbrev pub sumOf : (Counts → ℕ) → List Shown → ℕ

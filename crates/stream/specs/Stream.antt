@@ -1,5 +1,5 @@
--- A stream with no reader in it: what its pages alone determine (document 01, "Stamps and cuts"; demand 3). A stream is a
--- list of pages, as bytes. Packets are joined from the pages' segments, and samples are counted one by one. Assumes nothing.
+-- A stream with no reader in it: what its pages alone determine (RULES.md, 8; demand 3). A stream is a list of pages, as bytes.
+-- Packets are joined from the pages' segments, and samples are counted one by one. Assumes nothing.
 use Prim.Native.Nat.{ℕ, _+_}
 use mathlib.Core.Bool.{Bool, false, not, _&&_}
 use mathlib.Core.List.{List, [], _∷_, _++_, map}

@@ -1,5 +1,5 @@
--- What a reader opened part way counts: nothing is skipped, and of each packet all is kept but what is trimmed of it
--- (document 01, "Opened part way"). Assumes nothing.
+-- What a reader opened part way counts: nothing is skipped, and of each packet all is kept but what is trimmed of it (RULES.md,
+-- 9). Assumes nothing.
 use Prim.Native.Nat.{ℕ, _+_, _-_}
 use mathlib.Core.Path.{_≡_}
 use mathlib.Core.Bool.{false}

@@ -1,25 +1,32 @@
 // What a reader of a stream is made of, and what it tells of a page. No code: the rules are in `specs/`, and the code that
-// follows them is above.
+// follows them is in the crates that use this one.
 use granule::Position;
 use refusal::Refusal;
 
-// How far the stream has come. Opened: part way, no page accepted yet.
+// How far the stream has come.
 pub enum Phase {
+    // no page accepted yet
     First,
+    // before the end of the comment header
     Comment,
+    // among the audio pages
     Audio,
+    // opened part way, no page accepted yet
     Opened,
+    // a page marked last was accepted
     Ended,
 }
 
-// The unfinished packet: none, one of which so many bytes are in the carry buffer, or one that is dropped.
+// The unfinished packet.
 pub enum Pending {
     Nothing,
+    // so many of its bytes are in the carry buffer
     Held(usize),
+    // it is not listed, and none of its bytes is held
     Dropped,
 }
 
-// All that decides a refusal, a stamp or a length, beside the carry bytes up to the held count. `next` is the sequence number
+// All that decides a refusal, a stamp or a length, besides the carry bytes up to the held count. `next` is the sequence number
 // that is due.
 pub struct Core {
     pub pending: Pending,
@@ -47,16 +54,20 @@ pub struct Counts {
     pub hole: u64,
 }
 
-// What feeding a page answers: the next core and tally and the page's own record, or a refusal.
+// What feeding a page answers.
 pub enum PageFed {
+    // the next core and tally, and the page's own record
     Accepted(Core, Tally, Counts),
+    // 1 to 19
     Refused(Refusal),
 }
 
-// What a page is of one packet, by its lacing values: its last piece and nothing else, a piece that goes on and nothing else,
-// or something else.
+// What a page is of one packet, by its lacing values.
 pub enum Shape {
+    // its last piece and nothing else
     Ends,
+    // a piece that goes on and nothing else
     GoesOn,
+    // something else
     Other,
 }

@@ -5,13 +5,16 @@ use page_end::End;
 use reader::Fed;
 use reader::Reader;
 
-// Feeding goes on, or has ended: with a comment packet of this length in the carry buffer, by a refusal, at the end of the
-// input, or by a read that failed.
 pub(crate) enum Stage {
+    // feeding goes on
     Feeding,
+    // it has ended with a comment packet of this length in the carry buffer
     Complete(usize),
+    // it has ended by a refusal, of this number
     Refused(u8),
+    // it has ended at the end of the input
     Cut,
+    // it has ended by a read that failed
     Unread,
 }
 
@@ -38,7 +41,7 @@ enum Got {
 
 // ---- reading
 
-// Reads on behind the first n bytes, and tells where the bytes end now. A failure is said on standard error.
+// Reads on after the first n bytes, and tells where the bytes end now. A failure is said on standard error.
 fn read_behind(buffer: &mut [u8], n: usize) -> Got {
     let at = octets::least(n, buffer.len());
     let got = libc::read(libc::STDIN_FILENO, &mut buffer[at..]);
@@ -125,7 +128,7 @@ fn ended(p: Progress, n: usize) -> Progress {
     stopped(p, Stage::Refused(refusal::number(why)))
 }
 
-// Reads on behind the first n bytes.
+// Reads on after the first n bytes.
 fn read_turn(p: Progress, n: usize, buffer: &mut [u8]) -> State {
     match read_behind(buffer, n) {
         Got::Bytes(end) => State {

@@ -5,7 +5,7 @@ use tags_layout::Part;
 use tags_layout::PartRead;
 use tags_reader::TagsRead;
 
-// How far the listing of comments has come: where the next one's length stands in the packet, how many bytes of the output
+// How far the listing of comments has come: where the next one's length is in the packet, how many bytes of the output
 // buffer are filled, and whether it goes on.
 struct Listing {
     place: usize,
@@ -27,7 +27,7 @@ fn put_streams(out: &mut [u8], at: usize, head: Head) -> usize {
     head_lines::put_mapping(out, at, head)
 }
 
-// The text whose length stands at this place; empty where it passes the end.
+// The text whose length is at this place; empty where it passes the end.
 fn part_at(packet: &[u8], place: usize) -> Part {
     match tags_layout::find_text(packet, place) {
         PartRead::Found(p) => p,
@@ -42,7 +42,7 @@ fn count_of(packet: &[u8]) -> usize {
     }
 }
 
-// The next comment. Where its line does not fit behind the others, those are written first.
+// The next comment. Where its line does not fit after the others, those are written first.
 fn list_comment(l: Listing, packet: &[u8], out: &mut [u8]) -> Listing {
     let p = part_at(packet, l.place);
     let comment = octets::part_of(packet, p.start, p.size);

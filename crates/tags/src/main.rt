@@ -34,7 +34,7 @@ fn tell(p: Progress, carry: &[u8]) {
     }
 }
 
-// The input buffer has room for a page, of 65,307 bytes at most, and for a read as long behind it.
+// The input buffer has room for a page, of 65,307 bytes at most, and for a read as long after it.
 fn main() {
     let mut buffer = [0u8; 131072];
     let mut carry = [0u8; PACKET_MAX];

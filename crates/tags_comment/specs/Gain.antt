@@ -1,5 +1,5 @@
--- The gain in a comment's value (RFC 7845, 5.2.1; document 01, "Gain text" and refusal 21): an optional sign and digits, at
--- least one digit, at most 6 characters in all, from -32768 to 32767. Assumes nothing.
+-- The gain in a comment's value (RFC 7845, 5.2.1; RULES.md, 5, refusal 21): an optional sign and digits, at least one digit,
+-- at most 6 characters in all, from -32768 to 32767. Assumes nothing.
 use Prim.Native.Nat.{ℕ, _+_, _-_, _*_, _≤_}
 use mathlib.Core.Path.{_≡_}
 use mathlib.Core.Bool.{Bool, true, not, _&&_, _||_}

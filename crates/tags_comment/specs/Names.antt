@@ -1,5 +1,5 @@
--- One comment: its name and its value (RFC 7845, 5.2; document 01, "Comment packet"). The name is what precedes the first
--- "="; a comment without one has no name. Assumes nothing.
+-- One comment: its name and its value (RFC 7845, 5.2; RULES.md, 5). The name is what precedes the first "="; a comment without
+-- one has no name. Assumes nothing.
 use Prim.Native.Nat.{ℕ, suc, _-_}
 use mathlib.Core.Bool.{Bool, true, false, not, _&&_, _||_}
 use mathlib.Core.List.{[], _∷_}

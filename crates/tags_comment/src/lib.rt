@@ -10,6 +10,7 @@ use refusal::Refusal;
 
 pub enum GainRead {
     Gain(i16),
+    // 21
     Refused(Refusal),
 }
 
@@ -89,7 +90,7 @@ fn same_name(n: &[u8], m: &[u8]) -> bool
     true
 }
 
-// Whether the comment has this name, without regard to ASCII case.
+// Whether the comment has this name, without regard to ASCII case. Example: "title=a" has the name "TITLE".
 pub fn is_named(name: &[u8], c: &[u8]) -> bool
     ensures { λ r. ⌜ r ≡ isNamed (now (name .entry)) (now (c .entry)) ⌝ }
 {
@@ -171,7 +172,9 @@ fn gain_bits(t: &[u8]) -> u16
     size as u16
 }
 
-// The gain that the comment's value is, whatever its name. 21: no "=", or no number from -32768 to 32767 in its form.
+// The gain that the comment's value is, whatever its name. 21: there is no "=", or what follows the first one is not an
+// optional sign and digits, has no digit, has more than 6 characters, or is not from -32768 to 32767.
+// Example: `comment_gain(b"R128_TRACK_GAIN=-573")` gives `GainRead::Gain(-573)`.
 pub fn comment_gain(c: &[u8]) -> GainRead
     ensures { λ r. ⌜ toldGain r ≡ commentGain (now (c .entry)) ⌝ }
 {

@@ -1,4 +1,4 @@
--- Asking for a text of a comment header by its place (document 01, refusal 14). Assumes nothing.
+-- Asking for a text of a comment header by its place (RULES.md, refusal 14). Assumes nothing.
 use Prim.Native.Nat.{ℕ}
 use mathlib.Core.Bool.{not}
 use mathlib.Core.List.{[], _∷_}

@@ -1,6 +1,6 @@
--- The layout of a comment header (RFC 7845, 5.2; document 01, "Comment packet"): "OpusTags", the vendor after its length, the
--- number of comments, then each comment after its length, and trailing bytes that nobody looks at. Lengths and the number are
--- of 4 bytes. Places are counted from the start of the packet; what passes its end is read as far as it goes. Assumes nothing.
+-- The layout of a comment header (RFC 7845, 5.2; RULES.md, 5): "OpusTags", the vendor after its length, the number of comments,
+-- then each comment after its length, and trailing bytes that nobody looks at. Lengths and the number are of 4 bytes. Places
+-- are counted from the start of the packet; what passes its end is read as far as it goes. Assumes nothing.
 use Prim.Native.Nat.{ℕ, zero, suc, _+_}
 use mathlib.Core.Bool.{Bool, true, _&&_}
 use mathlib.Core.List.{List, [], _∷_}

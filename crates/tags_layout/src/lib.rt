@@ -25,6 +25,7 @@ pub struct Part {
 
 pub enum PartRead {
     Found(Part),
+    // 14, or 20 of a comment
     Refused(Refusal),
 }
 

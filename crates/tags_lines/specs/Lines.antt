@@ -1,4 +1,4 @@
--- The lines that name the texts of a comment header. Assumes nothing.
+-- The lines that name the texts of a comment header (RULES.md, 13). Assumes nothing.
 use Prim.Native.Nat.{ℕ, _≤_}
 use mathlib.Core.Bool.{Bool, _||_}
 use mathlib.Core.List.{[], _∷_, _++_}

@@ -17,21 +17,22 @@ fn part_in(b: &[u8], found: PartRead) -> &[u8]
     }
 }
 
-// The vendor, empty where `read_tags` refuses.
+// The vendor, empty where `tags_reader::read_tags` refuses.
 pub fn vendor(b: &[u8]) -> &[u8]
     ensures { λ r. ⌜ now r ≡ partIn (now (b .entry)) (findVendor (now (b .entry))) ⌝ }
 {
     part_in(b, tags_reader::find_vendor(b))
 }
 
-// Comment i, empty where `comment_number` is not 0.
+// Comment i, the first being 0; empty where `comment_number` is not 0.
 pub fn comment(b: &[u8], i: usize) -> &[u8]
     ensures { λ r. ⌜ now r ≡ partIn (now (b .entry)) (findComment (now (b .entry)) i) ⌝ }
 {
     part_in(b, tags_reader::find_comment(b, i))
 }
 
-// The number by which comment i is refused: 14, then 20; 0 for none.
+// The number by which comment i is refused, 0 for none. 14: the packet is no comment header. 20: not 14, and it has no such
+// comment.
 pub fn comment_number(b: &[u8], i: usize) -> u8
     ensures { λ r. ⌜ r ≡ numberIn (findComment (now (b .entry)) i) ⌝ }
 {
@@ -41,7 +42,8 @@ pub fn comment_number(b: &[u8], i: usize) -> u8
     }
 }
 
-// The gain in comment i, whatever its name. 14, then 20, then 21: its value is no gain.
+// The gain in comment i, whatever its name. 14 and 20: as `comment_number` tells. 21: neither, and its value is no gain.
+// Example: where comment 0 is "R128_TRACK_GAIN=-573", `gain(b, 0)` gives `GainRead::Gain(-573)`.
 pub fn gain(b: &[u8], i: usize) -> GainRead
     ensures { λ r. ⌜ toldGain r ≡ readGain (now (b .entry)) i ⌝ }
 {

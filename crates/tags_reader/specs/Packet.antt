@@ -1,4 +1,4 @@
--- The bytes of a comment header, put together of its parts (RFC 7845, 5.2). Assumes nothing.
+-- The bytes of a comment header, put together of its parts (RFC 7845, 5.2; RULES.md, 5). Assumes nothing.
 use mathlib.Core.List.{List, [], _∷_, _++_}
 use lib.ListN.{length}
 use Rattle.octets.specs.Octets.{Bytes}

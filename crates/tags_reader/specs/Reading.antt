@@ -1,5 +1,5 @@
--- Reading a comment header and asking for its parts (document 01, refusals 14, 20 and 21). The packet is checked first, whatever
--- is asked for. Assumes nothing.
+-- Reading a comment header and asking for its parts (RULES.md, refusals 14, 20 and 21). The packet is checked first,
+-- whatever is asked for. Assumes nothing.
 use Prim.Native.Nat.{ℕ}
 use mathlib.Core.Bool.{not}
 use mathlib.Core.List.{List, [], _∷_, _++_}

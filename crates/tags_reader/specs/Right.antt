@@ -1,4 +1,4 @@
--- When the texts of a comment header are right (RFC 7845, 5.2; document 01, refusals 14 and 23). The reader and the writer
+-- When the texts of a comment header are right (RFC 7845, 5.2; RULES.md, refusals 14 and 23). The reader and the writer
 -- share this. Assumes nothing.
 use mathlib.Core.Bool.{Bool, _&&_}
 use Rattle.octets.specs.Octets.{Bytes}

@@ -1,4 +1,4 @@
--- What is proved of comment headers, beside the contracts. Assumes nothing.
+-- What is proved of comment headers, in addition to the contracts. Assumes nothing.
 use Prim.Native.Nat.{ℕ, suc, _+_, _<_, _≤_}
 use mathlib.Core.Path.{_≡_}
 use mathlib.Core.List.{[]}

@@ -13,13 +13,17 @@ use tags_layout::VENDOR_START;
 use tags_rules::Gains;
 
 pub enum TagsRead {
+    // how many comments the packet has
     Count(usize),
+    // 14
     Refused(Refusal),
 }
 
-// A walk over the comments: the place of the next one, and the gains that were seen.
+// A walk over the comments.
 enum Walk {
+    // the packet is no comment header
     Wrong,
+    // the place of the next comment, and whether the gains of the track and of the album were seen
     At(usize, bool, bool),
 }
 
@@ -130,8 +134,9 @@ pub fn find_vendor(b: &[u8]) -> PartRead
     tags_layout::find_text(b, VENDOR_PLACE)
 }
 
-// Where comment i lies. The comments before it and those after it are walked once each. 14: the packet is no comment
-// header. 20: it has no such comment.
+// Where comment i lies, the first being 0. The comments before it and those after it are walked once each. 14: the packet is
+// no comment header. 20: not 14, and it has no such comment.
+// Example: with an empty vendor the first comment's length is at place 16, and the comment starts at place 20.
 pub fn find_comment(b: &[u8], i: usize) -> PartRead
     ensures { λ r. ⌜ toldPart r ≡ findComment (now (b .entry)) i ⌝ }
 {

@@ -1,4 +1,4 @@
--- When the comments of a comment header are right (RFC 7845, 5.2 and 5.2.1; document 01, refusals 14 and 23). The reader and
+-- When the comments of a comment header are right (RFC 7845, 5.2 and 5.2.1; RULES.md, refusals 14 and 23). The reader and
 -- the writer share this. Assumes nothing.
 use Prim.Native.Nat.{ℕ, _+_}
 use mathlib.Core.Bool.{Bool, true, _&&_}

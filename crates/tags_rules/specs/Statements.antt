@@ -1,4 +1,4 @@
--- What is proved of the comments of a comment header, beside the contracts. Assumes nothing.
+-- What is proved of the comments of a comment header, in addition to the contracts. Assumes nothing.
 use mathlib.Core.Path.{_≡_}
 use mathlib.Core.Bool.{false}
 use mathlib.Core.List.{List}

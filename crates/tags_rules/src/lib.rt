@@ -4,9 +4,11 @@ ghost use Rattle.tags_comment.specs.Names.{isNamed};
 ghost use Rattle.tags_rules.specs.Right.{trackGain, albumGain};
 ghost use Rattle.tags_rules.specs.Code.{judged, toldGains};
 
-// Which of the two gains were seen, up to a comment.
+// What the comments up to one give.
 pub enum Gains {
+    // one of them is wrong, or a gain is there twice
     Wrong,
+    // whether the gain of the track and that of the album were seen
     Seen(bool, bool),
 }
 
@@ -24,7 +26,8 @@ pub fn is_album_gain(c: &[u8]) -> bool
     tags_comment::is_named(b"R128_ALBUM_GAIN", c)
 }
 
-// One comment more. Each gain may be in one comment only.
+// One comment more, where `track` and `album` tell which gains the comments before it have. Each gain may be in one comment
+// only.
 pub fn judge(c: &[u8], track: bool, album: bool) -> Gains
     ensures { λ r. ⌜ toldGains r ≡ judged (now (c .entry)) track album ⌝ }
 {

@@ -1,4 +1,4 @@
--- What is proved of written comment headers, beside the contracts. Assumes nothing.
+-- What is proved of written comment headers, in addition to the contracts. Assumes nothing.
 use Prim.Native.Nat.{ℕ, _-_, _≤_}
 use mathlib.Core.Path.{_≡_}
 use mathlib.Core.List.{List, [], _∷_, _++_, map}

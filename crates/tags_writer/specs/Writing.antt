@@ -1,5 +1,5 @@
--- Writing a comment header (document 01, refusals 23 and 22; RFC 7845, 5.2). The comments are given joined, with a list of their
--- lengths. Assumes nothing.
+-- Writing a comment header (RULES.md, refusals 23 and 22; RFC 7845, 5.2). The comments are given joined, with a list of
+-- their lengths. Assumes nothing.
 use Prim.Native.Nat.{ℕ}
 use mathlib.Core.Path.{_≡_}
 use mathlib.Core.Bool.{not}

@@ -14,7 +14,9 @@ use tags_layout::VENDOR_START;
 use tags_rules::Gains;
 
 pub enum TagsWritten {
+    // how many bytes were written
     Bytes(usize),
+    // 23 or 22
     Refused(Refusal),
 }
 
@@ -113,8 +115,10 @@ fn put_tags(vendor: &[u8], text: &[u8], lengths: &[u64], out: &mut [u8])
 }
 
 // The comment header of a vendor and of comments that are joined in `text`, written to the start of `out`. 23: the lengths
-// do not sum to the text, the packet would be longer than a packet may be, or reading would refuse it. 22: `out` is shorter
-// than the packet. On refusal nothing is written.
+// do not sum to the text, the packet would be longer than 61,440 bytes, or reading would refuse it. 22: not 23, and `out` is
+// shorter than the packet. On refusal nothing is written.
+// Example: `write_tags(b"v", b"a=1b=2", &[3, 3], &mut out)` writes the comments "a=1" and "b=2", and gives
+// `TagsWritten::Bytes(31)`, where `out` has 31 bytes or more.
 pub fn write_tags(vendor: &[u8], text: &[u8], lengths: &[u64], out: &mut [u8]) -> TagsWritten
     ensures { λ r. ⌜ Wrote (now (vendor .entry)) (now (text .entry)) (now (lengths .entry))
         (now (out .entry)) r (now (out .exit)) ⌝ }

@@ -1,4 +1,4 @@
--- Reading the digits of a number back, and that no others stand for it. Assumes nothing.
+-- Reading the digits of a number back, and that no others mean it. Assumes nothing.
 use mathlib.Core.Path.{_≡_, refl, sym, ap, _∙_}
 use mathlib.Core.List.{[], _∷_, _++_, append-nil, append-assoc}
 use Prim.Native.Nat.{ℕ, zero, suc, _+_, _*_, _-_, _/_, _%_, _≤_, _<_}
@@ -65,7 +65,7 @@ decimal-right x = record {
   leading = λ h. no-zero x (not-none x h);
 }
 
--- ---- and no others stand for it
+-- ---- and no others mean it
 
 next-digit : (v d : ℕ) → 1 ≤ v → d < 10 → decimal (v * 10 + d) ≡ decimal v ++ (digit d ∷ [])
 next-digit v d h k =

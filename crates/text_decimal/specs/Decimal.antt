@@ -1,4 +1,4 @@
--- Numbers in decimal, as text (document 01, "The listing program"). Assumes nothing.
+-- Numbers in decimal, as text (RULES.md, 11). Assumes nothing.
 use Prim.Native.Nat.{ℕ, zero, suc, _+_, _*_, _-_, _/_, _%_}
 use mathlib.Core.List.{[], _∷_, _++_}
 use lib.Dec.{ltb}
@@ -18,7 +18,7 @@ decimalWithin (suc n) x = pick (ltb x 10) (digit x ∷ []) (decimalWithin n (x /
 unfoldable pub decimal : ℕ → Bytes
 decimal x = decimalWithin (suc x) x
 
--- the number that digits stand for, where v was read before them
+-- the number that digits mean, where v was read before them
 unfoldable pub numberAfter : ℕ → Bytes → ℕ
 numberAfter v [] = v
 numberAfter v (b ∷ s) = numberAfter (v * 10 + (b - 48)) s

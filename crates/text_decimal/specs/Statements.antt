@@ -1,4 +1,4 @@
--- What is proved of numbers in decimal, beside the contracts. Assumes nothing.
+-- What is proved of numbers in decimal, in addition to the contracts. Assumes nothing.
 use Prim.Native.Nat.{ℕ, _≤_, _<_}
 use mathlib.Core.Path.{_≡_}
 use lib.ListN.{length, getD}

@@ -25,7 +25,7 @@ pub fn digits_of(x: u64) -> usize
     n
 }
 
-// The four digits of a number below 10,000, leading zeros too, as the bytes of one number. Two pairs of digits stand in 16
+// The four digits of a number below 10,000, leading zeros too, as the bytes of one number. Two pairs of digits are in 16
 // bits each, and both are divided by ten at once: n * 103 / 1024 is n / 10 for every n below 100.
 fn four_digits(x: u64) -> u64
     requires { ⌜ x < 10000 ⌝ }
@@ -122,7 +122,7 @@ fn put_middle(out: &mut [u8], at: usize, x: u64) -> usize
     next + 4
 }
 
-// The digits of a number below 1,000,000,000,000: what stands before the last eight digits of any.
+// The digits of a number below 1,000,000,000,000: what comes before the last eight digits of any.
 fn put_upper(out: &mut [u8], at: usize, x: u64) -> usize
     requires { ⌜ HasRoom x 1000000000000 (now out) at (length (decimal x)) ⌝ }
     ensures { λ r. ⌜ Laid (now (out .entry)) at (decimal x) r (now (out .exit)) ⌝ }

@@ -18,7 +18,7 @@ use Rattle.text_escape.specs.Statements.{EscapeUndone}
 use Rattle.text_escape.proofs.Escaping.{escape-backslash, escape-other}
 use Rattle.text_escape.proofs.Images.{Shown, at-end, past, as-it-stands, in-escape, by-images}
 
--- a digit stands for its value
+-- a digit means its value
 value-digit : (d : ℕ) → d < 16 → hexValue (hexDigit d) ≡ d
 value-digit d h = by (ltb d 10) refl
   where

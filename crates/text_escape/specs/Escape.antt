@@ -1,4 +1,5 @@
--- A text as it is shown: the characters that are not hidden as they stand, and every other byte escaped. Assumes nothing.
+-- A text as it is shown: the characters that are not hidden as they are, and every other byte escaped (RULES.md, 13). Assumes
+-- nothing.
 use Prim.Native.Nat.{ℕ, zero, suc, _+_, _-_, _/_, _%_}
 use mathlib.Core.Bool.{Bool, true, false}
 use mathlib.Core.List.{[], _∷_, _++_}
@@ -22,7 +23,7 @@ hexDigit d = pick (ltb d 10) (0x30 + d) (0x37 + d)
 unfoldable pub escapeOf : ℕ → Bytes
 escapeOf b = pick (eqb b backslash) (backslash ∷ backslash ∷ []) (backslash ∷ 0x78 ∷ hexDigit (b / 16) ∷ hexDigit (b % 16) ∷ [])
 
--- a byte as it stands, or escaped
+-- a byte as it is, or escaped
 abbrev pub imageOf : Bool → ℕ → Bytes
 imageOf true b = b ∷ []
 imageOf false b = escapeOf b

@@ -1,4 +1,4 @@
--- Which characters a text that is shown does not have as they stand. Assumes nothing.
+-- Which characters a text that is shown does not have as they are (RULES.md, 13). Assumes nothing.
 use Prim.Native.Nat.{ℕ}
 use mathlib.Core.Bool.{Bool, false, _&&_, _||_}
 use mathlib.Core.List.{List, [], _∷_}
@@ -20,8 +20,8 @@ abbrev pub isInOne : ℕ → List Range → Bool
 isInOne x [] = false
 isInOne x (r ∷ rs) = isWithin x r || isInOne x rs
 
--- the backslash, since it begins an escape; the controls C0, DEL and C1; characters that cannot be seen or that change the
--- order of others; private use
+-- the backslash, since it begins an escape; the controls C0, DEL and C1; some characters that cannot be seen or that change
+-- the order of others; private use
 abbrev pub hidden : List Range
 hidden =
     (0 to 0x1F)

@@ -1,4 +1,4 @@
--- The bytes that an escaped text stands for. Assumes nothing.
+-- The bytes that an escaped text means (RULES.md, 13). Assumes nothing.
 use Prim.Native.Nat.{ℕ, _+_, _-_, _*_}
 use mathlib.Core.List.{[], _∷_}
 use lib.Dec.{ltb, eqb}
@@ -13,7 +13,7 @@ pub data Begun : Type 0 where
   slashX : Begun
   digit : ℕ → Begun
 
--- what a digit "0" to "9" or "A" to "F" stands for
+-- what a digit "0" to "9" or "A" to "F" means
 abbrev pub hexValue : ℕ → ℕ
 hexValue b = pick (ltb b 0x3A) (b - 0x30) (b - 0x37)
 

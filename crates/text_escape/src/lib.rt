@@ -1,4 +1,4 @@
-// A text made fit to be shown: nothing in it can drive a terminal, and it can be undone.
+// A text made fit to be shown: nothing in it can control a terminal, and the escapes can be undone.
 ghost use mathlib.Core.Path.{_≡_};
 ghost use mathlib.Core.Bool.{_&&_};
 ghost use Prim.Native.Nat.{_+_, _-_, _≤_, _<_};
@@ -17,7 +17,7 @@ fn is_within(x: u32, first: u32, last: u32) -> bool
     x <= last
 }
 
-// Whether the character of this number is never shown as it stands.
+// Whether the character of this number is never shown as it is.
 fn is_hidden(x: u32) -> bool
     ensures { λ r. ⌜ r ≡ isHidden x ⌝ }
 {
@@ -38,7 +38,7 @@ fn is_hidden(x: u32) -> bool
         | is_within(x, 0xF0000, 0x10FFFF)
 }
 
-// How many bytes from `at` on are shown as they stand, where k of them belong to a character that began before.
+// How many bytes from `at` on are shown as they are, where k of them belong to a character that began before.
 fn bytes_shown(s: &[u8], at: usize, k: usize) -> usize
     requires { ⌜ at < length (now s) ⌝ }
     ensures { λ r. ⌜ r ≡ bytesShown k (getD (now (s .entry)) at 0) (drop (at + 1) (now (s .entry))) ⌝ }
@@ -78,7 +78,7 @@ fn put_escape(out: &mut [u8], at: usize, b: u8) -> usize
     at + 4
 }
 
-// A byte as it stands where n bytes from it on are shown, or its escape where none is.
+// A byte as it is where n bytes from it on are shown, or its escape where none is.
 fn put_image(out: &mut [u8], at: usize, n: usize, b: u8) -> usize
     requires { ⌜ at + length (imageOf (isShown n) b) ≤ length (now out) ⌝ }
     ensures { λ r. ⌜ Laid (now (out .entry)) at (imageOf (isShown n) b) r (now (out .exit)) ⌝ }

@@ -1,4 +1,4 @@
--- A signed number in decimal, and a gain in decibels. Assumes nothing.
+-- A signed number in decimal, and a gain in decibels (RULES.md, 13). Assumes nothing.
 use Prim.Native.Nat.{ℕ, _*_, _/_, _%_, _≤_}
 use mathlib.Core.Path.{_≡_}
 use mathlib.Core.List.{[], _∷_, _++_}

@@ -1,4 +1,4 @@
--- What is proved of decibels, beside the contracts. Assumes nothing.
+-- What is proved of decibels, in addition to the contracts. Assumes nothing.
 use Prim.Native.Nat.{_*_, _/_, _%_}
 use mathlib.Core.Path.{_≡_}
 use mathlib.Core.List.{_++_}

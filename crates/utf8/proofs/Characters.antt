@@ -14,7 +14,7 @@ use Rattle.octets.specs.Octets.{Bytes}
 use Rattle.octets.proofs.Tests.{both}
 use Rattle.utf8.specs.Characters.{leadingOnes, characterLength, leadBits, tailsFollow, numberWith, rightNumber, rightCharacter, lengthAt, noCharacter, characterOf, characterAt, utf8From}
 
--- ---- a character that begins with b, whose length n and the rest s are at hand
+-- ---- a character that begins with b, whose length n and the rest s are known
 
 module _ (b n : ℕ) (s : Bytes) (size : n ≡ characterLength b) where
   pub no-length : n ≡ 0 → rightCharacter b s ≡ false

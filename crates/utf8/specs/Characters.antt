@@ -1,5 +1,5 @@
--- UTF-8 by RFC 3629, 3 (document 01, "Comment packet"): the length of a character is read from its lead byte's leading ones;
--- shortest forms, no surrogates, none above 10FFFF. Assumes nothing.
+-- UTF-8 by RFC 3629, 3 (RULES.md, 5): the length of a character is read from its lead byte's leading ones; shortest forms, no
+-- surrogates, none above 10FFFF. Assumes nothing.
 use Prim.Native.Nat.{ℕ, zero, suc, _+_, _-_, _*_, _%_, _^_, _≤_}
 use mathlib.Core.Path.{_≡_}
 use mathlib.Core.Bool.{Bool, true, false, not, _&&_}
@@ -24,11 +24,11 @@ characterLength b = lengthBy (leadingOnes b)
 
 -- that length as the code tells it, and as it takes it where a character begins
 pub record LengthTold (lead r : ℕ) : Type 0 where
-  pub length : r ≡ characterLength lead
+  pub same : r ≡ characterLength lead
   pub most : r ≤ 4
 
 pub record LengthTaken (lead n : ℕ) : Type 0 where
-  pub length : n ≡ characterLength lead
+  pub same : n ≡ characterLength lead
   pub some : 1 ≤ n
 
 -- the bits of the character's number in its lead byte: those after the leading ones and a zero
@@ -66,7 +66,7 @@ unfoldable pub rightCharacter : ℕ → Bytes → Bool
 rightCharacter b s =
     leb 1 (characterLength b) && (tailsFollow (characterLength b - 1) s && rightNumber (characterLength b) (numberOf b s))
 
--- the length of the right character at a place, 0 where none stands
+-- the length of the right character at a place, 0 where there is none
 abbrev pub lengthAt : Bytes → ℕ → ℕ
 lengthAt s at = pick (rightCharacter (getD s at 0) (drop (at + 1) s)) (characterLength (getD s at 0)) 0
 

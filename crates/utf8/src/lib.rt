@@ -5,7 +5,7 @@ ghost use lib.ListN.{length, drop};
 ghost use Rattle.utf8.specs.Characters.{LengthTold, LengthTaken, leadBits, tailsFollow, numberWith, leastOf};
 ghost use Rattle.utf8.specs.Characters.{rightNumber, lengthAt, noCharacter, characterAt, utf8};
 
-// A right character: how many bytes it has, and its number. Where none stands both are 0.
+// A right character: how many bytes it has, and its number. Where there is none, both are 0.
 pub struct Character {
     pub size: usize,
     pub number: u32,
@@ -109,7 +109,7 @@ fn right_number(n: usize, x: u32) -> bool
     x > 0xDFFF
 }
 
-// The length of the right character that stands here, 0 where none does.
+// The length of the right character that is here, 0 where there is none.
 fn character_at(s: &[u8], at: usize) -> usize
     requires { ⌜ at < length (now s) ⌝ }
     ensures { λ r. ⌜ r ≡ lengthAt (now (s .entry)) at ⌝ }

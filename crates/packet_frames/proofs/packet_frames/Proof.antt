@@ -1,4 +1,4 @@
--- `packet_frames::packet_frames` meets its contract: by how the frames stand. Assumes nothing.
+-- `packet_frames::packet_frames` meets its contract: by how the frames lie. Assumes nothing.
 use mathlib.Core.Path.{_≡_, sym, ap, _∙_}
 use mathlib.Core.Bool.{Bool, true, false}
 use Prim.Native.Nat.{ℕ}

@@ -14,7 +14,7 @@ use Rattle.text_gain.proofs.lay_decibels.Tie as tie
 sized : (c : tie.After-size-of) → c .size-of .result ≡ natAbs (c .before .before .args .g)
 sized c = c .size-of .ensures .same ∙ ap natAbs (toZ-ofZ (c .before .before .fits .g))
 
--- the sign stands
+-- the sign is written
 signed : (c : tie.After-lay-sign)
     → let a = c .before .before .before .before .args in Laid (now (a .out)) (a .at) (signOf (a .g)) (c .lay-sign .result) (c .lay-sign .last .0)
 signed c = same-sign (toZ-ofZ (c .before .before .before .before .fits .g)) (c .lay-sign .ensures)

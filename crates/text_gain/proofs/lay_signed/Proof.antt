@@ -10,7 +10,7 @@ use Rattle.text_gain.proofs.Texts.{same-sign, laid-signed}
 use Rattle.text_gain.proofs.lay_signed.Statement.{statement}
 use Rattle.text_gain.proofs.lay_signed.Tie as tie
 
--- the sign stands
+-- the sign is written
 signed : (c : tie.After-lay-sign) → let a = c .before .before .before .args in Laid (now (a .out)) 0 (signOf (a .g)) (c .lay-sign .result) (c .lay-sign .last .0)
 signed c = same-sign (toZ-ofZ (c .before .before .before .fits .g)) (c .lay-sign .ensures)
 

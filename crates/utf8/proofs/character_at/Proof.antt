@@ -21,17 +21,17 @@ returns c =
 
 returns-2 : tie.Need-returns-2
 returns-2 c =
-    let length = c .before in
-    let a = length .before .before .before .before .args in
-    rw (no-length (getD (now (a .s)) (a .at) 0) (length .character-length .result) (drop (a .at + 1) (now (a .s))) (length .character-length .ensures .length) (c .if2 .taken))
+    let told = c .before in
+    let a = told .before .before .before .before .args in
+    rw (no-length (getD (now (a .s)) (a .at) 0) (told .character-length .result) (drop (a .at + 1) (now (a .s))) (told .character-length .ensures .same) (c .if2 .taken))
 
 returns-3 : tie.Need-returns-3
 returns-3 c =
-    let length = c .before .before .before in
-    let a = length .before .before .before .before .args in
+    let told = c .before .before .before in
+    let a = told .before .before .before .before .args in
     let tails = failed (c .before .tails-follow .ensures) (c .if3 .taken) in
     rw
-    (wrong-tails (getD (now (a .s)) (a .at) 0) (length .character-length .result) (drop (a .at + 1) (now (a .s))) (length .character-length .ensures .length)
+    (wrong-tails (getD (now (a .s)) (a .at) 0) (told .character-length .result) (drop (a .at + 1) (now (a .s))) (told .character-length .ensures .same)
     (omega arith) tails)
 
 -- whether the character is right is what the number's test says
@@ -41,11 +41,11 @@ decided : (c : tie.After-right-number)
 decided c =
     let bits = c .before .before in
     let tails = bits .before in
-    let length = tails .before .before .before in
-    let a = length .before .before .before .before .args in
-    let n = length .character-length .result in
+    let told = tails .before .before .before in
+    let a = told .before .before .before .before .args in
+    let n = told .character-length .result in
     let s = drop (a .at + 1) (now (a .s)) in
-    number-decides (getD (now (a .s)) (a .at) 0) n s (length .character-length .ensures .length) (omega arith) (held (tails .before .tails-follow .ensures) (tails .if3 .left))
+    number-decides (getD (now (a .s)) (a .at) 0) n s (told .character-length .ensures .same) (omega arith) (held (tails .before .tails-follow .ensures) (tails .if3 .left))
     ∙ sym (c .right-number .ensures ∙ ap (rightNumber n) (c .before .number-with .ensures ∙ ap (λ (x : ℕ). numberWith x (n - 1) s) (bits .lead-bits .ensures)))
 
 returns-4 : tie.Need-returns-4
@@ -54,7 +54,7 @@ returns-4 c = rw (decided (c .before) ∙ not-true (c .before .right-number .res
 returns-5 : tie.Need-returns-5
 returns-5 c =
     rw (decided (c .before) ∙ not-false (c .before .right-number .result) (c .if4 .left))
-    (c .before .before .before .before .before .before .before .character-length .ensures .length)
+    (c .before .before .before .before .before .before .before .character-length .ensures .same)
 
 pub character-at-spec : {M : Type 1} → statement M
 character-at-spec =

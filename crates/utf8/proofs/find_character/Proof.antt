@@ -1,4 +1,4 @@
--- `utf8::find_character` meets its contract: what stands at the place decides, and the number is worked out again. Assumes nothing.
+-- `utf8::find_character` meets its contract: what is at the place decides, and the number is worked out again. Assumes nothing.
 use mathlib.Core.Path.{sym, _∙_}
 use native.Mathlib.Omega.{arith}
 use borrow.Author.Needs.{needs}
@@ -25,7 +25,7 @@ lead-bits-requires c κs =
     let found = c .before .before in
     let a = found .before .before .before .args in
     let right = is-right (now (a .s)) (a .at) (found .character-at .result) (found .before .if1 .left) (found .character-at .ensures) (c .before .if2 .left) in
-    record { length = right .1; some = omega arith }
+    record { same = right .1; some = omega arith }
 
 number-with-requires : tie.Need-number-with-requires
 number-with-requires c κs =

@@ -8,7 +8,7 @@ use Rattle.utf8.proofs.lead_bits.Tie as tie
 
 -- where the arms begin
 law : (c : tie.Start) → bitsBy (c .args .n) (c .args .lead) ≡ leadBits (c .args .lead)
-law c = lead-bits (c .args .lead) (c .args .n) (c .fits .lead .fits) (c .pre .length) (c .pre .some)
+law c = lead-bits (c .args .lead) (c .args .n) (c .fits .lead .fits) (c .pre .same) (c .pre .some)
 
 returns : tie.Need-returns
 returns c = rw (c .match .keys1) at (law (c .before))

@@ -1,4 +1,4 @@
--- `tags::feeding::run` is safe and ends: the lent slices keep their lengths, and the turns fall. Assumes nothing.
+-- `tags::feeding::run` is safe and ends: the lent slices keep their lengths, and the turns left decrease. Assumes nothing.
 use mathlib.Core.Path.{_≡_}
 use borrow.Author.Needs.{needs}
 use lib.ListN.{length}
