@@ -64,12 +64,23 @@ fn page_due(core: Core, read: PageRead) -> Due
     }
 }
 
+// The same answer, made again. One that is handed on is copied with its unused bytes, which costs some 4 % of a listing of one
+// packet a page.
+fn made_again(fed: PageFed) -> PageFed
+    ensures { λ r. ⌜ r ≡ fed ⌝ }
+{
+    match fed {
+        PageFed::Accepted(core, tally, counts) => PageFed::Accepted(core, tally, counts),
+        PageFed::Refused(why) => PageFed::Refused(why),
+    }
+}
+
 // An audio page with room is an audio page, so the second answer is never given here.
 fn of_audio(fed: AudioFed) -> PageFed
     ensures { λ r. ⌜ ((t : Told Taken) → toldAudio fed ≡ some t → toldPage r ≡ t) ⌝ }
 {
     match fed {
-        AudioFed::Page(page) => page,
+        AudioFed::Page(page) => made_again(page),
         AudioFed::NotAudio => PageFed::Refused(Refusal::ShortRoom),
     }
 }
