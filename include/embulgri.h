@@ -17,21 +17,25 @@ extern "C" {
 #endif
 
 /* The plain checksum of n bytes: polynomial 0x04c11db7, high bit first, start 0, no final change. It refuses nothing.
- * The checksum of a page takes the page's own field as zero; embulgri_page_read and embulgri_page_write see to that. */
+ * The checksum of a page takes the page's own field as zero; embulgri_page_read and embulgri_page_write see to that.
+ * Example: the checksum of the one byte 0x01 is 0x04c11db7. */
 uint32_t embulgri_checksum(const uint8_t *bytes, size_t n);
 
 /* Reads one Ogg page. out: flags, granule position, serial, sequence, number of lacing values, body length.
  * The lacing values start at byte 27 of the page, and the body follows them. Flags can be anything from 0 to 255.
  *   3   the bytes are not exactly one whole page, or the version is not 0
  *   4   not 3, and the checksum differs
- *   0   neither; the six numbers are stored */
+ *   0   neither; the six numbers are stored
+ * Example: a right page with flags 2, granule position 0, serial 7, sequence 0, one lacing value of 19 and a body of 19
+ * bytes stores 2, 0, 7, 0, 1, 19. */
 uint32_t embulgri_page_read(const uint8_t *page, size_t n, uint64_t out[6]);
 
 /* Writes one Ogg page, 27 + lacing_n + body_n bytes, at the start of out, and its length to *written. What lies past
  * the page stays as it was.
  *   23  there are more than 255 lacing values, they do not sum to body_n, or flags is above 7
  *   22  not 23, and out is shorter than the page
- *   0   neither; the page and its length are stored */
+ *   0   neither; the page and its length are stored
+ * Example: flags 4, one lacing value of 1, a body of 1 byte and an out of 40 bytes store 29 to *written. */
 uint32_t embulgri_page_write(uint64_t flags, uint64_t granule, uint32_t serial, uint32_t sequence,
                              const uint8_t *lacing, size_t lacing_n, const uint8_t *body, size_t body_n,
                              uint8_t *out, size_t out_n, uint64_t *written);
@@ -41,7 +45,8 @@ uint32_t embulgri_page_write(uint64_t flags, uint64_t granule, uint32_t serial, 
  *   13  streams is not from 1 to 255
  *   15  not 13, and one of the Opus packets is illegal (RFC 6716, section 3.4), or n is 0
  *   16  neither, and the Opus packets differ in length
- *   0   none of these; the length is stored */
+ *   0   none of these; the length is stored
+ * Example: the byte 0xfc with streams 1 stores 960. */
 uint32_t embulgri_packet_read(const uint8_t *packet, size_t n, uint64_t streams, uint64_t *samples);
 
 /* Reads one identification header (RFC 7845, section 5.1). fields: version, channels, pre-skip, input rate, output
@@ -52,7 +57,9 @@ uint32_t embulgri_packet_read(const uint8_t *packet, size_t n, uint64_t streams,
  *   13  not 12, and the channel mapping is wrong: channels is not 1 or 2 for family 0, 1 to 8 for family 1, 1 to 255
  *       for family 255, or the family is another; the stream count is 0, the coupled count is above it, or their sum is
  *       above 255; or an index is neither below their sum nor 255
- *   0   neither; the eight numbers and all 255 places of the mapping are stored */
+ *   0   neither; the eight numbers and all 255 places of the mapping are stored
+ * Example: a right header with 2 channels, pre-skip 312, input rate 48000, output gain 0 and family 0 stores the numbers
+ * 1, 2, 312, 48000, 0, 0, 1, 1 and the mapping 0, 1 and zeros. */
 uint32_t embulgri_head_read(const uint8_t *packet, size_t n, uint64_t fields[8], uint8_t mapping[255]);
 
 /* Writes one identification header, 19 bytes for family 0 and 21 + channels for any other family, at the start of out,
@@ -62,7 +69,9 @@ uint32_t embulgri_head_read(const uint8_t *packet, size_t n, uint64_t fields[8],
  *       version is not 1, embulgri_head_read would refuse the channel mapping by 13, family 0 has other counts or
  *       indices than its own, or a place of the mapping past those of the channels is not zero
  *   22  not 23, and out is shorter than the header
- *   0   neither; the header and its length are stored */
+ *   0   neither; the header and its length are stored
+ * Example: the numbers 1, 2, 312, 48000, 0, 0, 1, 1 with the mapping 0, 1 and zeros and an out of 40 bytes store 19 to
+ * *written. */
 uint32_t embulgri_head_write(const uint64_t fields[8], const uint8_t mapping[255],
                              uint8_t *out, size_t out_n, uint64_t *written);
 
@@ -71,12 +80,14 @@ uint32_t embulgri_head_write(const uint64_t fields[8], const uint8_t mapping[255
  *   14  the signature is wrong; a length, the count or a text passes the end of the packet; the vendor or a comment is
  *       not UTF-8 (RFC 3629); a comment's name, which is what precedes its first "=", has a byte outside 0x20 to 0x7D;
  *       or two comments are named R128_TRACK_GAIN, or two R128_ALBUM_GAIN, without regard to ASCII case
- *   0   none of these; the count is stored */
+ *   0   none of these; the count is stored
+ * Example: a header with the vendor "v" and the comments "a=1" and "b=2" stores 2. */
 uint32_t embulgri_tags_read(const uint8_t *packet, size_t n, uint64_t *count);
 
 /* Finds the vendor of a comment header. part: where it starts in the packet, and its length in bytes.
  *   14  embulgri_tags_read would refuse the packet
- *   0   it would not; the two numbers are stored */
+ *   0   it would not; the two numbers are stored
+ * Example: a header with the vendor "v" stores 12 and 1. */
 uint32_t embulgri_tags_vendor(const uint8_t *packet, size_t n, uint64_t part[2]);
 
 /* Finds comment i of a comment header, the first being 0. part: where it starts in the packet, and its length in bytes.
@@ -84,7 +95,8 @@ uint32_t embulgri_tags_vendor(const uint8_t *packet, size_t n, uint64_t part[2])
  * lies in four bytes, least byte first, and its text follows.
  *   14  embulgri_tags_read would refuse the packet
  *   20  not 14, and i is not below the number of comments
- *   0   neither; the two numbers are stored */
+ *   0   neither; the two numbers are stored
+ * Example: with the vendor "v" and the comments "a=1" and "b=2", i 1 stores 28 and 3, and i 2 returns 20. */
 uint32_t embulgri_tags_comment(const uint8_t *packet, size_t n, uint64_t i, uint64_t part[2]);
 
 /* Reads the gain in comment i of a comment header, the first being 0: the number after its first "=", whatever its
@@ -93,14 +105,16 @@ uint32_t embulgri_tags_comment(const uint8_t *packet, size_t n, uint64_t i, uint
  *   20  not 14, and i is not below the number of comments
  *   21  neither, and the comment has no "=", or what is after it is not an optional sign and digits, has no digit, has
  *       more than 6 characters, or is not from -32768 to 32767
- *   0   none of these; the gain is stored */
+ *   0   none of these; the gain is stored
+ * Example: the comment "R128_TRACK_GAIN=-573" stores 64963, and the comment "b=x" returns 21. */
 uint32_t embulgri_tags_gain(const uint8_t *packet, size_t n, uint64_t i, uint64_t *gain);
 
 /* Writes one comment header, 16 + vendor_n + text_n + 4 * lengths_n bytes, at the start of out, and its length to
  * *written. What lies past the header stays as it was. text: the comments joined. lengths: how many bytes each has.
  *   23  the lengths do not sum to text_n, the header is longer than 61440 bytes, or embulgri_tags_read would refuse it
  *   22  not 23, and out is shorter than the header
- *   0   neither; the header and its length are stored */
+ *   0   neither; the header and its length are stored
+ * Example: the vendor "v", the text "a=1b=2", the lengths 3 and 3 and an out of 40 bytes store 31 to *written. */
 uint32_t embulgri_tags_write(const uint8_t *vendor, size_t vendor_n, const uint8_t *text, size_t text_n,
                              const uint64_t *lengths, size_t lengths_n, uint8_t *out, size_t out_n,
                              uint64_t *written);
@@ -109,7 +123,8 @@ uint32_t embulgri_tags_write(const uint8_t *vendor, size_t vendor_n, const uint8
  * at a tie to the even one, and to *count, which is exact. A clock starts at 0 and 0; any reading and any count are
  * taken, a NaN or an infinity too. A NaN that is stored may have any payload and any sign.
  *   30  length is not a multiple of 120 from 120 to 5760, or the count would pass 2^63 - 1
- *   0   neither; the reading and the count are stored */
+ *   0   neither; the reading and the count are stored
+ * Example: the reading 0 and the count 0 with length 960 store 960 and 960. */
 uint32_t embulgri_clock_add(float *reading, uint64_t *count, uint64_t length);
 
 /* A reader of one stream is a state of 16 numbers. It may be copied, kept and fed again. Any 16 numbers are a legal
@@ -125,13 +140,16 @@ uint32_t embulgri_clock_add(float *reading, uint64_t *count, uint64_t length);
  * Of other numbers, one above 4 in place 0 means 4, and one above 2 in places 1 and 3 means 2. Those in places 5 to 9
  * count modulo 2^32, 2^32, 2^8, 2^16 and 2^16. Places 10 to 15 are not looked at. */
 
-/* A reader that waits for the first page of a stream. It refuses nothing. */
+/* A reader that waits for the first page of a stream. It refuses nothing.
+ * Example: the state that is stored is 16 zeros. */
 void embulgri_start(uint64_t state[16]);
 
 /* A reader that waits for any audio page of a stream with this identification header. fields and mapping are as
  * embulgri_head_read stores them. A packet that began before that page is not listed, and the pre-skip is not skipped.
  *   23  embulgri_head_write would refuse the fields by 23
- *   0   it would not; the 16 numbers are stored */
+ *   0   it would not; the 16 numbers are stored
+ * Example: the numbers 1, 2, 312, 48000, 0, 0, 1, 1 with the mapping 0, 1 and zeros store 3, 0, 0, 1, 0, 0, 0, 1, 312
+ * and seven zeros. */
 uint32_t embulgri_open(const uint64_t fields[8], const uint8_t mapping[255], uint64_t state[16]);
 
 /* Feeds one page. ends, lengths and kept: for each packet that the page lists the position of its last sample, its
@@ -164,7 +182,9 @@ uint32_t embulgri_open(const uint64_t fields[8], const uint8_t mapping[255], uin
  *   17  the granule position is too small for the packets that complete on the page
  *   18  the first page where a packet completes is marked last, and its granule position is below the pre-skip
  *   19  the reader was opened part way, and its first page where a packet completes is marked last
- *   0   none of these; the state, the lists and page_out are stored */
+ *   0   none of these; the state, the lists and page_out are stored
+ * Example: after the headers of a stream with pre-skip 312, a page of three packets of 960 samples with granule position
+ * 2880 stores ends 960, 1920, 2880, lengths 960, 960, 960, kept 648, 960, 960 and page_out 3, 2880, 2568, 312, 0, 0. */
 uint32_t embulgri_feed(uint64_t state[16], const uint8_t *page, size_t n, uint8_t *carry, size_t carry_n,
                        uint64_t *ends, size_t ends_n, uint64_t *lengths, size_t lengths_n, uint64_t *kept, size_t kept_n,
                        uint64_t page_out[6]);

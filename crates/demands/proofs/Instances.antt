@@ -39,7 +39,8 @@ use Rattle.stream.specs.Feedings.{HandedOn}
 use Rattle.stream.specs.Statements.{pageShifted, BytesShifted}
 use Rattle.demands.specs.Example.{R, firstPage, holePage, lastPage, written, lentWith, room}
 use Rattle.stream.specs.SameAnswers.{SameRooms}
-use Rattle.demands.specs.Instances.{sevens, nines, middle, MeetsAnswers, ending, MeetsUnskipped, ahead, full, MeetsCarry, laterPage, entered, shifted, MeetsEntering}
+use Rattle.demands.specs.Instances.{sevens, nines, middle, MeetsAnswers, MeetsHeldCounts, ending, MeetsUnskipped}
+use Rattle.demands.specs.Instances.{ahead, full, MeetsCarry, laterPage, entered, shifted, MeetsEntering}
 use Rattle.stream.proofs.Clear.{some≢none}
 use Rattle.stream.proofs.Step.{expected, saw, feeds}
 use Rattle.demands.proofs.Plan.{roomy, lacks}
@@ -70,6 +71,10 @@ held-sevens = begins-so 60930 7
 held-nines : take 510 nines ≡ replicate 510 0
 unfolding nines
 held-nines = begins-so 61000 9
+
+held-room : take 510 room ≡ replicate 510 0
+unfolding room
+held-room = refl
 
 -- ---- what is told where the verdict is known
 
@@ -103,6 +108,15 @@ meets-answers = record {
   equal = λ skip other. record { core = refl; held = held-nines ∙ sym held-sevens };
   accepted = λ skip. taken (middle skip) sevens (written holePage) enough-sevens
       (ap (λ (s : State). verdict R s (written holePage)) (middle-view skip) ∙ steps .hole .passes);
+}
+
+-- ---- HeldCounts
+
+pub meets-held-counts : MeetsHeldCounts
+unfolding HandedOn
+meets-held-counts = record {
+  handed = λ skip. ((λ e. held-sevens ∙ sym held-nines), ((λ e. absurd (true≢false (sym lacks ∙ e))), tt));
+  equal = λ skip. held-nines ∙ sym held-room;
 }
 
 -- ---- Unskipped

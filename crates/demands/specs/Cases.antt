@@ -17,14 +17,17 @@ use Rattle.granule.specs.declared.Position.the-variants.{Unset}
 use Rattle.granule.specs.Judging.{judgeChecks}
 use Rattle.stream.specs.Stream.{Mark, decoded, positionFrom, keptCount, trimmedCount}
 
--- what a case gives, and what is to come of it
+-- what a case gives
 pub data Given : Type 0 where
   packet : Bytes → Given
   pages : List Mark → Given
 
+-- what is to come of it
 pub data Outcome : Type 0 where
-  samples : ℕ → Outcome  -- the length of a packet
-  counts : ℕ → ℕ → Outcome  -- the samples kept, and those trimmed
+  -- the length of a packet
+  samples : ℕ → Outcome
+  -- the samples kept, and those trimmed
+  counts : ℕ → ℕ → Outcome
   refused : ℕ → Outcome
 
 pub record Case : Type 0 where

@@ -1,11 +1,11 @@
 -- Readers, pages and lent memory that meet the hypotheses of the statements in `SameAnswers`, `Unskipped`, `CarryBuffer` and
--- `Entering` of `stream`.
+-- `Entering` of `stream`, and of `HeldCounts` of `feed_pages`.
 -- Assumes nothing.
 use Prim.Native.Nat.{ℕ, _<_, _^_}
 use mathlib.Core.Path.{_≡_}
 use mathlib.Core.Bool.{true}
 use mathlib.Core.List.{List, [], _∷_, _++_}
-use lib.ListN.{replicate}
+use lib.ListN.{take, replicate}
 use Rattle.octets.specs.Octets.{Bytes}
 use Rattle.refusal.specs.declared.Refusal.the-variants.{GranuleTooSmall}
 use Rattle.refusal.specs.Numbers.{numberOf}
@@ -17,7 +17,7 @@ use Rattle.stream.specs.declared.Pending.{Pending}
 use Rattle.stream.specs.declared.Pending.the-variants.{Nothing, Held}
 use Rattle.stream.specs.Page.{Page, pageOf}
 use Rattle.stream.specs.Feed.{Reader, Taken, feed}
-use Rattle.stream.specs.Feedings.{Feeding, HandedOn}
+use Rattle.stream.specs.Feedings.{Feeding, heldOf, HandedOn}
 use Rattle.demands.specs.Example.{R, firstPage, holePage, lastPage, written, lentWith, room}
 use Rattle.stream.specs.SameAnswers.{CoresAgree, SameRooms, Twice, ones, others, feeding}
 use Rattle.stream.specs.Unskipped.{Unskipping}
@@ -55,6 +55,12 @@ pub record MeetsAnswers : Type 0 where
   pub rooms : SameRooms twice
   pub equal : (skip other : ℕ) → CoresAgree (middle skip) (middle other) sevens nines
   pub accepted : (skip : ℕ) → (t : Taken) × (feed R (middle skip) (lentWith sevens) (written holePage) .told ≡ gives t)
+
+-- ---- HeldCounts: the buffer that was left, another in its place, and the one that is fed agree in 510 bytes alone
+
+pub record MeetsHeldCounts : Type 0 where
+  pub handed : (skip : ℕ) → HandedOn R (middle skip) nines (ones twice)
+  pub equal : (skip : ℕ) → take (heldOf (middle skip .core .pending)) nines ≡ take (heldOf (middle skip .core .pending)) room
 
 -- ---- Unskipped: 380 of 480 samples are trimmed
 

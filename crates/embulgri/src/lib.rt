@@ -1,13 +1,11 @@
-// The library for programs in C, Rust and Python: numbers and slices only. include/embulgri.h declares these functions.
+// The library for programs in C, Rust and Python: numbers and slices only. include/embulgri.h declares these functions, and
+// says when each refuses by which number. Each but embulgri_checksum and embulgri_start returns 0 and stores what it gives, or
+// returns the number of its refusal and stores nothing, but for the carry buffer of embulgri_feed (RULES.md, 14).
 ghost use mathlib.Core.Path.{_≡_};
 ghost use Rattle.page_crc.specs.Crc.{crc};
 ghost use Rattle.tags_layout.specs.Finding.{toldPart};
-ghost use Rattle.stream.specs.Feed.{start as started};
-ghost use Rattle.stream.specs.Lent.{atEntry, atExit};
-ghost use Rattle.feed_numbers.specs.Numbers.{numbersOf};
 ghost use Rattle.embulgri.specs.Answers.{PageIn, PageOut, PacketIn, HeadIn, HeadLaid, TagsIn, PartIn, VendorIn};
 ghost use Rattle.embulgri.specs.Answers.{CommentIn, GainIn, TagsOut, ClockAfter};
-ghost use Rattle.embulgri.specs.Feeding.{OpenedIn, pageRecord, FedIn};
 use head_reader::Verdict;
 use head_writer::HeadWritten;
 use old_clock::Added;
@@ -16,15 +14,16 @@ use packet_reader::PacketRead;
 use page_layout::PageHeader;
 use page_reader::PageRead;
 use page_writer::PageWritten;
-use reader::StateFed;
-use reader::StateOpened;
 use refusal::Refusal;
-use stream::Counts;
 use tags_comment::GainRead;
 use tags_layout::PartRead;
 use tags_reader::TagsRead;
 use tags_writer::TagsWritten;
 
+pub mod feeding;
+
+// Returns the checksum of the bytes as they are (RULES.md, 3; embulgri.h). It stores nothing and refuses nothing.
+// Example: of the one byte 0x01 it is 0x04c11db7.
 #[no_mangle]
 pub extern "C" fn embulgri_checksum(bytes: &[u8]) -> u32
     ensures { λ r. ⌜ r ≡ crc 0 (now (bytes .entry)) ⌝ }
@@ -32,7 +31,10 @@ pub extern "C" fn embulgri_checksum(bytes: &[u8]) -> u32
     page_crc::checksum(bytes)
 }
 
-// Into `out`: flags, granule position, serial, sequence, number of lacing values, body length.
+// Reads one page. Into `out`: flags, granule position, serial, sequence, number of lacing values, body length. Returns 3, 4
+// or 0 (RULES.md, 3; embulgri.h).
+// Example: a right page with flags 2, granule position 0, serial 7, sequence 0 and one lacing value of 19 stores 2, 0, 7, 0,
+// 1, 19.
 #[no_mangle]
 pub extern "C" fn embulgri_page_read(page: &[u8], out: &mut [u64; 6]) -> u32
     ensures { λ r. ⌜ PageIn (now (page .entry)) r (now (out .entry)) (now (out .exit)) ⌝ }
@@ -56,6 +58,8 @@ pub extern "C" fn embulgri_page_read(page: &[u8], out: &mut [u64; 6]) -> u32
     }
 }
 
+// Writes one page to the start of `out`. Into `written`: how many bytes it has. Returns 23, 22 or 0 (RULES.md, 3; embulgri.h).
+// Example: one lacing value of 1 and a body of 1 byte, with flags 4 and an `out` of 40 bytes, store 29 and return 0.
 #[no_mangle]
 pub extern "C" fn embulgri_page_write(
     flags: u64,
@@ -91,7 +95,8 @@ pub extern "C" fn embulgri_page_write(
     }
 }
 
-// Into `samples`: the length of an audio packet of so many streams, at 48 kHz.
+// Reads one audio packet of so many streams. Into `samples`: its length in samples at 48 kHz. Returns 13, 15, 16 or 0
+// (RULES.md, 6; embulgri.h). Example: the one byte 0xfc and 1 stream store 960.
 #[no_mangle]
 pub extern "C" fn embulgri_packet_read(packet: &[u8], streams: u64, samples: &mut u64) -> u32
     ensures { λ r. ⌜ PacketIn (now (packet .entry)) streams r (now (samples .entry)) (now (samples .exit)) ⌝ }
@@ -106,7 +111,10 @@ pub extern "C" fn embulgri_packet_read(packet: &[u8], streams: u64, samples: &mu
     }
 }
 
-// Into `fields`: the eight numbers. Into `mapping`: its 255 places.
+// Reads one identification header. Into `fields`: its eight numbers. Into `mapping`: its 255 places. Returns 12, 13 or 0
+// (RULES.md, 4; embulgri.h).
+// Example: 2 channels, pre-skip 312, rate 48000, gain 0 and family 0 store 1, 2, 312, 48000, 0, 0, 1, 1 and the places 0, 1
+// and zeros.
 #[no_mangle]
 pub extern "C" fn embulgri_head_read(
     packet: &[u8],
@@ -131,6 +139,9 @@ pub extern "C" fn embulgri_head_read(
     }
 }
 
+// Writes one identification header to the start of `out`. Into `written`: how many bytes it has. Returns 23, 22 or 0
+// (RULES.md, 4; embulgri.h).
+// Example: the numbers 1, 2, 312, 48000, 0, 0, 1, 1 with the places 0, 1 and zeros, and an `out` of 19 bytes, store 19.
 #[no_mangle]
 pub extern "C" fn embulgri_head_write(
     fields: &[u64; 8],
@@ -156,7 +167,8 @@ pub extern "C" fn embulgri_head_write(
     }
 }
 
-// Into `count`: the number of comments of a comment header.
+// Reads one comment header. Into `count`: the number of its comments. Returns 14 or 0 (RULES.md, 5; embulgri.h).
+// Example: a packet with the vendor "v" and the comments "a=1" and "b=2" stores 2.
 #[no_mangle]
 pub extern "C" fn embulgri_tags_read(packet: &[u8], count: &mut u64) -> u32
     ensures { λ r. ⌜ TagsIn (now (packet .entry)) r (now (count .entry)) (now (count .exit)) ⌝ }
@@ -184,6 +196,8 @@ fn store_part(found: PartRead, part: &mut [u64; 2]) -> u32
     }
 }
 
+// Finds the vendor of a comment header. Into `part`: where it starts in the packet, and how many bytes it has. Returns 14 or 0
+// (RULES.md, 5; embulgri.h). Example: a right packet with the vendor "v" stores 12 and 1.
 #[no_mangle]
 pub extern "C" fn embulgri_tags_vendor(packet: &[u8], part: &mut [u64; 2]) -> u32
     ensures { λ r. ⌜ VendorIn (now (packet .entry)) r (now (part .entry)) (now (part .exit)) ⌝ }
@@ -191,6 +205,9 @@ pub extern "C" fn embulgri_tags_vendor(packet: &[u8], part: &mut [u64; 2]) -> u3
     store_part(tags_reader::find_vendor(packet), part)
 }
 
+// Finds comment i of a comment header, the first being 0. Into `part`: where it starts in the packet, and how many bytes it
+// has. Returns 14, 20 or 0 (RULES.md, 5; embulgri.h).
+// Example: with the vendor "v" and the comments "a=1" and "b=2", comment 1 stores 28 and 3, and comment 2 returns 20.
 #[no_mangle]
 pub extern "C" fn embulgri_tags_comment(packet: &[u8], i: u64, part: &mut [u64; 2]) -> u32
     ensures { λ r. ⌜ CommentIn (now (packet .entry)) i r (now (part .entry)) (now (part .exit)) ⌝ }
@@ -198,7 +215,8 @@ pub extern "C" fn embulgri_tags_comment(packet: &[u8], i: u64, part: &mut [u64; 
     store_part(tags_reader::find_comment(packet, i as usize), part)
 }
 
-// Into `gain`: the gain in comment i, in 16 bits.
+// Reads the gain in comment i of a comment header. Into `gain`: the gain in 16 bits. Returns 14, 20, 21 or 0 (RULES.md, 5;
+// embulgri.h). Example: the comment "b=2" stores 2, and the comment "R128_TRACK_GAIN=-573" stores 64963.
 #[no_mangle]
 pub extern "C" fn embulgri_tags_gain(packet: &[u8], i: u64, gain: &mut u64) -> u32
     ensures { λ r. ⌜ GainIn (now (packet .entry)) i r (now (gain .entry)) (now (gain .exit)) ⌝ }
@@ -213,6 +231,8 @@ pub extern "C" fn embulgri_tags_gain(packet: &[u8], i: u64, gain: &mut u64) -> u
     }
 }
 
+// Writes one comment header to the start of `out`. Into `written`: how many bytes it has. Returns 23, 22 or 0 (RULES.md, 5;
+// embulgri.h). Example: the vendor "v", the text "a=1b=2", the lengths 3 and 3, and an `out` of 31 bytes store 31.
 #[no_mangle]
 pub extern "C" fn embulgri_tags_write(
     vendor: &[u8],
@@ -235,7 +255,8 @@ pub extern "C" fn embulgri_tags_write(
     }
 }
 
-// Adds a packet's length to the old clock's reading and to its exact count.
+// Adds a packet's length in samples to the old clock: into `reading` the sum rounded, into `count` the exact one. Returns 30
+// or 0 (RULES.md, 10; embulgri.h). Example: 0.0 and 0 with 960 samples become 960.0 and 960.
 #[no_mangle]
 pub extern "C" fn embulgri_clock_add(reading: &mut f32, count: &mut u64, samples: u64) -> u32
     ensures { λ r. ⌜
@@ -254,62 +275,5 @@ pub extern "C" fn embulgri_clock_add(reading: &mut f32, count: &mut u64, samples
             0
         }
         Added::Refused(why) => refusal::number(why) as u32,
-    }
-}
-
-// ---- feeding a stream
-
-#[no_mangle]
-pub extern "C" fn embulgri_start(state: &mut [u64; 16])
-    ensures { λ _. ⌜ now (state .exit) ≡ numbersOf started ⌝ }
-{
-    *state = reader::start_state();
-}
-
-#[no_mangle]
-pub extern "C" fn embulgri_open(
-    fields: &[u64; 8],
-    mapping: &[u8; 255],
-    state: &mut [u64; 16],
-) -> u32
-    ensures { λ r. ⌜ OpenedIn (now (fields .entry)) (now (mapping .entry)) r (now (state .entry)) (now (state .exit)) ⌝ }
-{
-    if !head_numbers::numbers_fit(fields) {
-        return refusal::number(Refusal::UnfitFields) as u32;
-    }
-    match reader::open_state(head_numbers::head_of(fields, mapping), state) {
-        StateOpened::Done => 0,
-        StateOpened::Refused(why) => refusal::number(why) as u32,
-    }
-}
-
-// Packets listed, their samples, how many of these are kept, skipped and trimmed, and the hole before them.
-fn page_record(c: Counts) -> [u64; 6]
-    ensures { λ r. ⌜ r ≡ pageRecord c ⌝ }
-{
-    [c.packets, c.samples, c.kept, c.skipped, c.trimmed, c.hole]
-}
-
-// Into `out`: the page's own record.
-#[no_mangle]
-pub extern "C" fn embulgri_feed(
-    state: &mut [u64; 16],
-    page: &[u8],
-    carry: &mut [u8],
-    ends: &mut [u64],
-    lengths: &mut [u64],
-    kept: &mut [u64],
-    out: &mut [u64; 6],
-) -> u32
-    ensures { λ r. ⌜
-        FedIn (now (state .entry)) (now (page .entry)) (atEntry carry ends lengths kept) r
-        (now (state .exit)) (atExit carry ends lengths kept) (now (out .entry)) (now (out .exit)) ⌝ }
-{
-    match reader::feed_state(state, page, carry, ends, lengths, kept) {
-        StateFed::Accepted(counts) => {
-            *out = page_record(counts);
-            0
-        }
-        StateFed::Refused(why) => refusal::number(why) as u32,
     }
 }

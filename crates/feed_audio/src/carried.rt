@@ -64,6 +64,7 @@ pub(crate) fn fresh(pending: Pending, rest: usize) -> usize
     }
 }
 
+// The core after the page, which is ended where the page is marked last.
 pub(crate) fn next_core(core: Core, h: PageHeader, pending: Pending, position: Position) -> Core
     ensures { λ r. ⌜ r ≡ nextCore core h pending position ⌝ }
 {

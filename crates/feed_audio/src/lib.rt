@@ -164,9 +164,12 @@ fn is_fed(phase: Phase, short: bool, lacing: &[u8], body: &[u8]) -> bool
     page_lacing::is_body(lacing, body)
 }
 
-// Feeds one audio page, with the fields `h`, to the state that expects it, after refusals 2 to 8. 9: a packet would pass
-// 61,440 bytes. 11: the granule. 15, 16: a packet. 19, 18, 17: the granule and the samples. Not audio: a lent list is too short,
-// these are no lacing values and body of a page, or the state is not among the audio pages; all stays.
+// Feeds one audio page, with the fields `h`, to the state that expects it, after refusals 2 to 8 (RULES.md, 7). 9: a packet
+// would pass 61,440 bytes. 11: the granule. 15, 16: a packet. 19, 18, 17: the granule and the samples. Not audio: the carry
+// buffer or a lent list is too short, these are no lacing values and body of a page, or the state is not among the audio
+// pages; all stays.
+// Example: where the position is 960, nothing is pending and nothing is to skip, a page of one packet of 960 samples with
+// granule position 1920 lists the end stamp 1920, the length 960 and the kept count 960.
 pub fn feed_audio(
     core: Core,
     tally: Tally,

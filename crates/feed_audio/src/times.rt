@@ -22,6 +22,8 @@ pub(crate) enum Timed {
     Refused(Refusal),
 }
 
+// Measures the packets that complete on a page, their lengths into `lens`, and judges the page by them: where they lie, or 15
+// to 19.
 pub(crate) fn time_page(
     core: Core,
     h: PageHeader,

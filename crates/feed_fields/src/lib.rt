@@ -17,7 +17,9 @@ use stream::Pending;
 use stream::Phase;
 
 pub enum Checked {
+    // no check holds
     Passed,
+    // the first check that holds
     Refused(Refusal),
 }
 
@@ -91,7 +93,10 @@ fn wrong_flags(phase: Phase, flags: u8) -> bool
     either(flags > 7, either(mark, end))
 }
 
-// 5 to 8, of the core that expects the page.
+// 5 to 8, of the core that expects the page (RULES.md, 2): another serial, another sequence number than the one due, wrong
+// flags, and a continued mark where no packet is unfinished or none where one is. The first in this order is given.
+// Example: in `Phase::Audio` with serial 7, number 3 due and nothing pending, a page with serial 7, sequence 3 and flags 0
+// passes. With flags 1 it is 8.
 pub fn check_fields(core: Core, h: PageHeader) -> Checked
     ensures { λ r. ⌜ ((carry lacing body : Bytes) →
         found r ≡ firstOf (fieldChecks (view core carry) (pageWith h lacing body))) ⌝ }
@@ -152,7 +157,8 @@ fn remade(core: Core) -> Core
 }
 
 // The core that expects the page: a first page brings its serial, and a page that a reader was opened at its serial, its
-// sequence number and, by its continued mark, a dropped packet.
+// sequence number and, by its continued mark, a dropped packet (RULES.md, 7 and 9). It refuses nothing.
+// Example: in `Phase::First` a page with serial 7 gives a core with serial 7, sequence number 0 due and nothing pending.
 pub fn expected(core: Core, h: PageHeader) -> Core
     ensures { λ r. ⌜ ((carry lacing body : Bytes) → view r carry ≡ expecting (view core carry) (pageWith h lacing body)) ⌝ }
 {

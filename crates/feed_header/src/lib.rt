@@ -176,10 +176,12 @@ fn is_fed(phase: Phase, pending: Pending, room: usize, lacing: &[u8], body: &[u8
     page_lacing::is_body(lacing, body)
 }
 
-// Feeds one page of the two headers, with the fields `h`, to the state that expects it, after refusals 2 to 8. 9: the packet
-// would pass 61,440 bytes. 10: the page is not one piece of it. 11: the granule. 12, 13: the identification header. 14: the
-// comment header. Not a header: the carry buffer is too short, these are no lacing values and body of a page, or the state
-// expects no header page; all stays.
+// Feeds one page of the two headers, with the fields `h`, to the state that expects it, after refusals 2 to 8 (RULES.md, 7).
+// 9: the packet would pass 61,440 bytes. 10: the first page is not one whole packet, or a later one not one piece of the
+// comment header. 11: the granule. 12, 13: the identification header. 14: the comment header. Not a header: the carry buffer
+// is too short, these are no lacing values and body of a page, or the state expects no header page; all stays.
+// Example: in `Phase::First` with nothing pending, a right page of the identification header with pre-skip 312 gives a core
+// in `Phase::Comment`, 312 samples to skip and a record of zeros.
 pub fn feed_header(
     core: Core,
     tally: Tally,

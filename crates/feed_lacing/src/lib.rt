@@ -90,7 +90,10 @@ fn scan_new(lacing: &[u8]) -> Scan
     scan_from(lacing, 0, 0)
 }
 
-// The page's packets against 9, by what is pending. A dropped packet is not measured.
+// The page's packets against 9, by what is pending (RULES.md, 2). A dropped packet is not measured. It gives the bytes of the
+// packet that goes on, 0 where none does, or `Scan::TooLong`.
+// Example: `scan_page(Pending::Held(10), &[255, 255])` is `Scan::Rest(520)`, and `scan_page(Pending::Nothing, &[255, 3])` is
+// `Scan::Rest(0)`.
 pub fn scan_page(pending: Pending, lacing: &[u8]) -> Scan
     ensures { λ r. ⌜ r ≡ scanBy pending (now (lacing .entry)) ⌝ }
 {
@@ -104,7 +107,8 @@ pub fn scan_page(pending: Pending, lacing: &[u8]) -> Scan
     }
 }
 
-// 9
+// Whether 9 holds: a packet of the page, complete or not, has more than 61,440 bytes, those held included (RULES.md, 2).
+// Example: `is_long(Pending::Held(61440), &[1])` is true, and `is_long(Pending::Held(61440), &[0])` is false.
 pub fn is_long(pending: Pending, lacing: &[u8]) -> bool
     ensures { λ r. ⌜ ((carry : Bytes) → r ≡ isLong (carriedIn pending carry) (now (lacing .entry))) ⌝ }
 {
@@ -114,7 +118,9 @@ pub fn is_long(pending: Pending, lacing: &[u8]) -> bool
     }
 }
 
-// Whether the values are those of one piece, and whether that ends a packet.
+// Whether the values are those of one piece, and whether that ends a packet (RULES.md, 3). It refuses nothing.
+// Example: `shape_of(&[255, 3])` is `Shape::Ends`, `shape_of(&[255])` is `Shape::GoesOn`, and `shape_of(&[3, 3])` is
+// `Shape::Other`.
 pub fn shape_of(lacing: &[u8]) -> Shape
     ensures { λ r. ⌜ r ≡ shapeOf (now (lacing .entry)) ⌝ }
 {
@@ -134,7 +140,8 @@ pub fn shape_of(lacing: &[u8]) -> Shape
     Shape::GoesOn
 }
 
-// Whether the page is the last piece of a packet and nothing else.
+// Whether the page is the last piece of a packet and nothing else (RULES.md, 2, refusal 10).
+// Example: `is_ends(Shape::Ends)` is true, and `is_ends(Shape::GoesOn)` is false.
 pub fn is_ends(shape: Shape) -> bool
     ensures { λ r. ⌜ r ≡ isEnds shape ⌝ }
 {
@@ -155,7 +162,8 @@ fn is_other(shape: Shape) -> bool
     }
 }
 
-// 10: the first page has to be one whole packet, and a page of the comment packet one piece of it.
+// Whether 10 holds (RULES.md, 2): the first page has to be one whole packet, and a page of the comment packet one piece of it.
+// Example: `wrong_shape(Phase::First, Shape::GoesOn)` is true, and `wrong_shape(Phase::Comment, Shape::GoesOn)` is false.
 pub fn wrong_shape(phase: Phase, shape: Shape) -> bool
     ensures { λ r. ⌜ r ≡ wrongShape phase shape ⌝ }
 {

@@ -9,7 +9,8 @@ use stream::Counts;
 use stream::Pending;
 use stream::Phase;
 
-// The core after a page with the fields `h`: its serial, and the sequence number that is then due.
+// The core after a page with the fields `h`: its serial, and the sequence number that is then due (RULES.md, 7). It refuses
+// nothing. Example: after sequence number 4 number 5 is due, and after 4294967295 number 0.
 pub fn next_core(
     h: PageHeader,
     phase: Phase,
@@ -31,7 +32,7 @@ pub fn next_core(
     }
 }
 
-// The record of a page that lists nothing.
+// The record of a page that lists nothing (RULES.md, 7). Example: `no_counts().kept` is 0, as the five other numbers are.
 pub fn no_counts() -> Counts
     ensures { λ r. ⌜ r ≡ noCounts ⌝ }
 {

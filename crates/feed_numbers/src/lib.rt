@@ -52,7 +52,8 @@ fn granule_in(position: Position) -> u64
     }
 }
 
-// The numbers of a reader with this core and this tally. It refuses nothing.
+// The numbers of a reader with this core and this tally (RULES.md, 14). It refuses nothing.
+// Example: those of `feed_start::start_core()` with 0 samples to skip are sixteen zeros.
 pub fn numbers_of(core: Core, tally: Tally) -> [u64; 16]
     ensures { λ r. ⌜ StandFor r (readerOf core tally) ⌝ }
 {
@@ -121,7 +122,8 @@ fn position_from(n: u64, g: u64) -> Position
     Position::At(g)
 }
 
-// The core of the reader that the numbers represent. It refuses nothing.
+// The core of the reader that the numbers represent (RULES.md, 14). It refuses nothing.
+// Example: 9 in place 0 gives `Phase::Ended`, and 256 in place 7 gives 0 streams.
 pub fn core_from(state: &[u64; 16]) -> Core
     ensures { λ r. ⌜ r ≡ readerFrom (now (state .entry)) .core ⌝ }
 {
@@ -136,7 +138,8 @@ pub fn core_from(state: &[u64; 16]) -> Core
     }
 }
 
-// The tally of the reader that the numbers represent. It refuses nothing.
+// The tally of the reader that the numbers represent (RULES.md, 14). It refuses nothing.
+// Example: 312 in place 9 gives 312 samples to skip, and 65536 gives 0.
 pub fn tally_from(state: &[u64; 16]) -> Tally
     ensures { λ r. ⌜ r ≡ readerFrom (now (state .entry)) .tally ⌝ }
 {

@@ -90,7 +90,7 @@ fn of_header(fed: HeaderFed) -> PageFed
     ensures { λ r. ⌜ ((t : Told Taken) → toldHeader fed ≡ some t → toldPage r ≡ t) ⌝ }
 {
     match fed {
-        HeaderFed::Page(page) => page,
+        HeaderFed::Page(page) => made_again(page),
         HeaderFed::NotHeader => PageFed::Refused(Refusal::ShortRoom),
     }
 }
@@ -138,7 +138,8 @@ fn feed_read(
 // Feeds one page to the core of a reader: the next one and the page's own record, or a refusal of 1 to 19, which leaves the
 // three lists as they were. The lowest number that holds is told, but 19 and 18 before 17, and for each packet in turn 15
 // before 16. The carry buffer has to hold, up to the held count, what the last feeding left there. Of an accepted page the
-// lists show the end stamp, the length and the kept count of each packet.
+// lists show the end stamp, the length and the kept count of each packet (RULES.md, 7).
+// Example: `feed_start::start_core()` and a right first page give a core in `Phase::Comment` and a record of zeros.
 pub fn feed_core(
     core: Core,
     tally: Tally,
@@ -163,7 +164,8 @@ pub fn feed_core(
 }
 
 // The same as `feed_core`, by lent tables: those of `page_crc_tables::table::tables` give the checksum, and others what they
-// give. Whoever feeds many small pages makes the tables once.
+// give (RULES.md, 3). Whoever feeds many small pages makes the tables once.
+// Example: with the tables of `page_crc_tables::table::tables` a page has the answer that `feed_core` gives.
 pub fn feed_core_with(
     tables: &[u32; 4096],
     core: Core,

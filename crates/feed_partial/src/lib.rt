@@ -5,7 +5,8 @@ ghost use Rattle.feed_partial.specs.Rest.{restRefusal};
 use reader::Reader;
 use refusal::Refusal;
 
-// 2 after an end, and else 3.
+// The refusal of bytes that are no whole page: 2 after an end, and else 3 (RULES.md, 7).
+// Example: for `reader::start()` it is that of number 3.
 pub fn refusal_of_rest(reader: Reader) -> Refusal
     ensures { λ r. ⌜ r ≡ restRefusal (knownAs reader) ⌝ }
 {

@@ -3,7 +3,8 @@ ghost use mathlib.Core.Path.{_≡_};
 ghost use Rattle.stream.specs.State.{isFirst, isAudio, isEnded};
 use stream::Phase;
 
-// Whether no page was accepted yet, in a reader that was started.
+// Whether no page was accepted yet, in a reader that was started (RULES.md, 7).
+// Example: `is_first(Phase::First)` is true, and `is_first(Phase::Opened)` is false.
 pub fn is_first(phase: Phase) -> bool
     ensures { λ r. ⌜ r ≡ isFirst phase ⌝ }
 {
@@ -16,7 +17,9 @@ pub fn is_first(phase: Phase) -> bool
     }
 }
 
-// Whether the headers are complete or a page was accepted part way, and the last page was not marked last.
+// Whether the stream is among its audio pages (RULES.md, 7): the comment header is complete, or a page came after opening part
+// way, and no page marked last was accepted.
+// Example: `is_audio(Phase::Audio)` is true, and `is_audio(Phase::Opened)` is false.
 pub fn is_audio(phase: Phase) -> bool
     ensures { λ r. ⌜ r ≡ isAudio phase ⌝ }
 {
@@ -29,7 +32,8 @@ pub fn is_audio(phase: Phase) -> bool
     }
 }
 
-// Whether the last page accepted was marked last.
+// Whether the last page accepted was marked last, so that 2 holds (RULES.md, 2).
+// Example: `is_ended(Phase::Ended)` is true, and `is_ended(Phase::Audio)` is false.
 pub fn is_ended(phase: Phase) -> bool
     ensures { λ r. ⌜ r ≡ isEnded phase ⌝ }
 {

@@ -17,7 +17,8 @@ pub enum CoreOpened {
     Refused(Refusal),
 }
 
-// The core of a reader that waits for the first page of a stream. It refuses nothing.
+// The core of a reader that waits for the first page of a stream (RULES.md, 7). It refuses nothing.
+// Example: its phase is `Phase::First`, nothing is pending, and its four numbers are 0.
 pub fn start_core() -> Core
     ensures { λ r. ⌜ r ≡ start .core ⌝ }
 {
@@ -33,7 +34,8 @@ pub fn start_core() -> Core
 }
 
 // The core and tally of a reader opened part way, in a stream with this header. 23: `head_writer::write_head` would refuse
-// the fields by 23.
+// the fields by 23 (RULES.md, 9).
+// Example: right fields with 1 stream and pre-skip 312 give a core with these two, and 0 samples to skip.
 pub fn open_core(head: Head) -> CoreOpened
     ensures { λ r. ⌜ toldOpened r ≡ openPartWay head ⌝ }
 {

@@ -38,8 +38,9 @@ pub const GRANULE_MAX: u64 = 9223372036854775807;
 // All ones: the page has no granule position.
 const NO_GRANULE: u64 = 18446744073709551615;
 
-// Whether 11 holds: where a packet completes, `g` is above the most that it may be; where none does, the page has a granule
-// position.
+// Whether 11 holds (RULES.md, 2): where a packet completes, the granule position `g` is above the most that it may be; where
+// none does, the page has a granule position.
+// Example: `wrong_granule(GRANULE_MAX, true, 960)` is false, and `wrong_granule(GRANULE_MAX, false, 960)` is true.
 pub fn wrong_granule(most: u64, completes: bool, g: u64) -> bool
     ensures { λ r. ⌜ r ≡ granuleWrong most completes g ⌝ }
 {

@@ -87,7 +87,9 @@ fn all_zero(s: &[u8]) -> bool
     true
 }
 
-// The channel mapping is right.
+// Whether the channel mapping is right (RULES.md, 4): the family allows so many channels, the numbers of streams are right,
+// and each index is below their sum or is 255. Where it is not, reading refuses by 13.
+// Example: family 1 with 3 channels, 2 streams, 1 coupled and the indices 0, 2, 1 is right. With 0, 3, 1 it is not.
 pub fn right_mapping(h: Head) -> bool
     ensures { λ r. ⌜ r ≡ rightMapping h ⌝ }
 {
@@ -127,7 +129,10 @@ fn right_plain(h: Head) -> bool
     octets::begins_with(&mapping, &plain[..n])
 }
 
-// Fields that a reading could have given.
+// Whether a reading could have given these fields (RULES.md, 4): the version is 1, the channel mapping is right, family 0
+// has its own numbers, and each place past the channels is 0. Where they are not such, writing refuses by 23.
+// Example: version 1, family 0, 2 channels, 1 stream, 1 coupled and the places 0, 1 and zeros are right. With 0 coupled they
+// are not.
 pub fn right_head(h: Head) -> bool
     ensures { λ r. ⌜ r ≡ rightHead h ⌝ }
 {
@@ -145,7 +150,8 @@ pub fn right_head(h: Head) -> bool
     all_zero(&mapping[channels..])
 }
 
-// How long a header is: the table has two counts and an index for each channel, and family 0 has none.
+// How long a header is in bytes (RULES.md, 4): the table has two counts and an index for each channel, and family 0 has
+// none. It refuses nothing. Example: `head_length(0, 2)` is 19, and `head_length(1, 6)` is 27.
 pub fn head_length(family: u8, channels: u8) -> usize
     ensures { λ r. ⌜ r ≡ headLength family channels ⌝ }
 {

@@ -20,7 +20,8 @@ const GAIN_END_MAX: usize = 56;
 // The most bytes that end the line of a mapping.
 const MAPPING_END_MAX: usize = 1021;
 
-// A number after its name.
+// The line of a number: its name, the number in decimal and a line feed (RULES.md, 13). Where it does not fit, nothing is put.
+// Example: `put_number(out, 0, b"rate ", 48000)` puts "rate 48000" and a line feed, and answers 11.
 pub fn put_number(out: &mut [u8], at: usize, name: &[u8], x: u64) -> usize
     ensures { λ r. ⌜ Put (now (out .entry)) at (numberLine (now (name .entry)) x) r (now (out .exit)) ⌝ }
 {
@@ -38,7 +39,8 @@ fn lay_gain(out: &mut [u8], g: i16) -> usize
     text_gain::put_decibels(out, next, g)
 }
 
-// A gain, and the same in decibels.
+// The line of a gain: the number, and the same in decibels (RULES.md, 13). Where it does not fit, nothing is put.
+// Example: for -573 it is "gain -573", a tab, "-2.23828125 dB" and a line feed.
 pub fn put_gain(out: &mut [u8], at: usize, g: i16) -> usize
     ensures { λ r. ⌜ Put (now (out .entry)) at (gainLine g) r (now (out .exit)) ⌝ }
 {
@@ -79,7 +81,8 @@ fn lay_mapping(out: &mut [u8], s: &[u8]) -> usize
     text_put::put_bytes(out, last, b"\n")
 }
 
-// The places of the channel mapping that are used.
+// The line of the channel mapping: the places that are used, each after a space (RULES.md, 13). Where it does not fit, nothing
+// is put. Example: for 2 channels with the indices 0 and 1 it is "mapping 0 1" and a line feed.
 pub fn put_mapping(out: &mut [u8], at: usize, head: Head) -> usize
     ensures { λ r. ⌜ Put (now (out .entry)) at (mappingLine (usedPlaces head)) r (now (out .exit)) ⌝ }
 {

@@ -3,7 +3,10 @@ ghost use mathlib.Core.Path.{_≡_};
 ghost use Rattle.head_numbers.specs.Numbers.{headNumbers, fitting, headFrom};
 use head_fields::Head;
 
-// Version, channels, pre-skip, input rate, gain in 16 bits, family, streams, coupled.
+// The eight numbers of a header (RULES.md, 14): version, channels, pre-skip, input rate, gain in 16 bits, family, streams,
+// coupled. It refuses nothing.
+// Example: version 1, 2 channels, pre-skip 312, rate 48000, gain -573, family 0, 1 stream and 1 coupled give 1, 2, 312, 48000,
+// 64963, 0, 1, 1.
 pub fn numbers_of(h: Head) -> [u64; 8]
     ensures { λ r. ⌜ r ≡ headNumbers h ⌝ }
 {
@@ -20,7 +23,9 @@ pub fn numbers_of(h: Head) -> [u64; 8]
     ]
 }
 
-// Whether each of the eight numbers fits its field's width.
+// Whether each of the eight numbers fits its field's width (RULES.md, 14): 16 bits for pre-skip and gain, 32 for the rate,
+// and 8 for any other. Where one does not, it is 23 across C.
+// Example: 1, 2, 312, 48000, 0, 0, 1, 1 fit, and 1, 256, 312, 48000, 0, 0, 1, 1 do not.
 pub fn numbers_fit(fields: &[u64; 8]) -> bool
     ensures { λ r. ⌜ r ≡ fitting (now (fields .entry)) ⌝ }
 {
@@ -35,7 +40,8 @@ pub fn numbers_fit(fields: &[u64; 8]) -> bool
     true
 }
 
-// The fields of such numbers. Of a number that does not fit, its lowest bits.
+// The fields of such numbers, with this mapping (RULES.md, 14). Of a number that does not fit, its lowest bits. It refuses
+// nothing. Example: 64963 for the gain gives -573, and 257 for the channels gives 1.
 pub fn head_of(fields: &[u64; 8], mapping: &[u8; 255]) -> Head
     ensures { λ r. ⌜ r ≡ headFrom (now (fields .entry)) (now (mapping .entry)) ⌝ }
 {

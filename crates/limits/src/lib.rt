@@ -1,4 +1,4 @@
-// The bounds of the rules. No code. Functions that ask for room or measure a packet compare with these.
+// The bounds of the rules (RULES.md, 1). No code. Functions that ask for room or measure a packet compare with these.
 
 // The most bytes that a packet may have.
 pub const PACKET_MAX: usize = 61440;

@@ -135,7 +135,9 @@ fn lacks_line(len: usize, at: usize) -> bool
 }
 
 // The lines of packets from place `at` on, by their end stamps, lengths and kept counts, as long as the longest line would
-// fit.
+// fit (RULES.md, 11). The shortest of the three lists says how many packets there are.
+// Example: the stamps 960 and 1920, the lengths 960 and 960 and the kept counts 648 and 960, from place 0 of 100 bytes, put
+// the lines "960 960 648" and "1920 960 960", and give the count 2 and the place 25.
 pub fn put_entries(out: &mut [u8], at: usize, ends: &[u64], lengths: &[u64], kept: &[u64]) -> Listed
     ensures { λ r. ⌜ PutLines (now (out .entry)) at
         (linesIn (length (now (out .entry)) - at) (now (ends .entry)) (now (lengths .entry)) (now (kept .entry))) r

@@ -72,7 +72,8 @@ fn lacks_refused(len: usize, at: usize, number: u64, page: u64) -> bool
     )
 }
 
-// The line above all entries: "end dur kept".
+// The line above all entries: "end dur kept" (RULES.md, 11). Where it does not fit, nothing is put.
+// Example: `put_first(out, 0)` answers 13, where `out` has 13 bytes or more.
 pub fn put_first(out: &mut [u8], at: usize) -> usize
     ensures { λ r. ⌜ Put (now (out .entry)) at firstLine r (now (out .exit)) ⌝ }
 {

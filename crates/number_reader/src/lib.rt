@@ -1,4 +1,4 @@
-// Numbers in bytes, lowest byte first; bytes past the end are zero.
+// Numbers in bytes, lowest byte first (RULES.md, 3); bytes past the end are zero.
 ghost use mathlib.Core.Path.{_≡_};
 ghost use Prim.Native.Nat.{_≤_};
 ghost use Rattle.octets.specs.Numbers.{number};
@@ -20,21 +20,23 @@ fn number_at(s: &[u8], at: usize, n: usize) -> u64
     x
 }
 
-// The number in the two bytes from place `at` on.
+// The number in the two bytes from place `at` on (RULES.md, 3).
+// Example: `number16(&[0x38, 0x01], 0)` is 312, and `number16(&[0x38, 0x01], 1)` is 1.
 pub fn number16(s: &[u8], at: usize) -> u16
     ensures { λ r. ⌜ r ≡ number 2 (now (s .entry)) at ⌝ }
 {
     number_at(s, at, 2) as u16
 }
 
-// The number in the four bytes from place `at` on.
+// The number in the four bytes from place `at` on (RULES.md, 3). Example: `number32(&[1, 2, 0, 0], 0)` is 513.
 pub fn number32(s: &[u8], at: usize) -> u32
     ensures { λ r. ⌜ r ≡ number 4 (now (s .entry)) at ⌝ }
 {
     number_at(s, at, 4) as u32
 }
 
-// The number in the eight bytes from place `at` on.
+// The number in the eight bytes from place `at` on (RULES.md, 3).
+// Example: `number64(&[0, 1, 0, 0, 0, 0, 0, 0], 0)` is 256, and so is `number64(&[0, 1], 0)`.
 pub fn number64(s: &[u8], at: usize) -> u64
     ensures { λ r. ⌜ r ≡ number 8 (now (s .entry)) at ⌝ }
 {

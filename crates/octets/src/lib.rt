@@ -6,21 +6,22 @@ ghost use lib.Dec.{ltb};
 ghost use lib.ListN.{getD, take, drop};
 ghost use Rattle.octets.specs.Octets.{Widened, begins, copied};
 
-// The smaller of two numbers.
+// The smaller of two numbers. Example: `least(3, 5)` is 3.
 pub fn least(a: usize, b: usize) -> usize
     ensures { λ r. ⌜ r ≡ min a b ⌝ }
 {
     if a < b { a } else { b }
 }
 
-// The byte at a place, 0 past the end.
+// The byte at a place, 0 past the end. Example: `byte_at(b"ab", 1)` is 98, and `byte_at(b"ab", 2)` is 0.
 pub fn byte_at(s: &[u8], at: usize) -> u8
     ensures { λ r. ⌜ r ≡ getD (now (s .entry)) at 0 ⌝ }
 {
     if at < s.len() { s[at] } else { 0 }
 }
 
-// Whether the bytes begin with p.
+// Whether the bytes s begin with p.
+// Example: `begins_with(b"OggS", b"Og")` is true, and `begins_with(b"Og", b"OggS")` is false.
 pub fn begins_with(s: &[u8], p: &[u8]) -> bool
     ensures { λ r. ⌜ r ≡ begins (now (p .entry)) (now (s .entry)) ⌝ }
 {
@@ -38,6 +39,7 @@ pub fn begins_with(s: &[u8], p: &[u8]) -> bool
 }
 
 // The n bytes from `at` on, or as many of them as are there.
+// Example: `part_of(b"abcd", 1, 2)` is "bc", and `part_of(b"abcd", 3, 2)` is "d".
 pub fn part_of(s: &[u8], at: usize, n: usize) -> &[u8]
     ensures { λ r. ⌜ now r ≡ take n (drop at (now (s .entry))) ⌝ }
 {
@@ -46,7 +48,7 @@ pub fn part_of(s: &[u8], at: usize, n: usize) -> &[u8]
     &s[start..end]
 }
 
-// A byte as a count or an index.
+// A byte as a count or an index. Example: `wide(255)` is 255.
 pub fn wide(x: u8) -> usize
     ensures { λ r. ⌜ Widened x r ⌝ }
 {
@@ -54,6 +56,7 @@ pub fn wide(x: u8) -> usize
 }
 
 // Whether n bytes from `at` on pass the end of a buffer of `len` bytes.
+// Example: `is_short(10, 8, 2)` is false, and `is_short(10, 8, 3)` is true.
 pub fn is_short(len: usize, at: usize, n: usize) -> bool
     ensures { λ r. ⌜ r ≡ ltb len (at + n) ⌝ }
 {
@@ -63,7 +66,8 @@ pub fn is_short(len: usize, at: usize, n: usize) -> bool
     len - at < n
 }
 
-// All of s into d from place `at` on, or nothing where it does not fit.
+// Copies all of s into d from place `at` on, or nothing where it does not fit.
+// Example: `copy_at(&mut d, 1, b"xy")` makes "axy" of a `d` that is "abc"; a `d` that is "ab" stays.
 pub fn copy_at(d: &mut [u8], at: usize, s: &[u8])
     ensures { λ _. ⌜ now (d .exit) ≡ copied (now (d .entry)) at (now (s .entry)) ⌝ }
 {

@@ -15,7 +15,7 @@ pub enum Added {
     Refused(Refusal),
 }
 
-// A clock with the reading 0 and the count 0. It refuses nothing.
+// The clock before any packet (RULES.md, 10). It refuses nothing. Example: `start()` has the reading 0.0 and the count 0.
 pub fn start() -> Clock
     ensures { λ r. ⌜ r ≡ startClock ⌝ }
 {

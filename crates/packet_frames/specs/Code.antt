@@ -50,9 +50,11 @@ capped k (value n s) = pick (ltb k n) short (value n s)
 abbrev pub paddingIn : Bytes → ℕ → Read ℕ
 paddingIn s at = capped (length s) (paddingFrom 0 (drop at s))
 
--- how the frames lie, with no rule named, and with padding that is no longer than the packet
+-- how the frames of a packet lie in it, with no rule named
 pub data Plain : Type 0 where
+  -- the packet breaks a rule, or its padding would be longer than the packet
   none : Plain
+  -- the number of frames, whether each has a length of its own, the bytes of padding, and what follows, as in `shape`
   plain : ℕ → Bool → ℕ → Bytes → Plain
 
 abbrev pub plainOf : ℕ → Shape → Plain

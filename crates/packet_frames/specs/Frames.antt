@@ -18,9 +18,11 @@ frameMax = 1275
 abbrev pub samplesMax : ℕ
 samplesMax = 5760
 
--- a value read from the front of some bytes and what follows it, or too few bytes for it
+-- what is read from the front of some bytes
 pub data Read (A : Type 0) : Type 0 where
+  -- too few bytes for a value
   short : Read A
+  -- a value and the bytes that follow it
   value : A → Bytes → Read A
 
 -- one coded length (RFC 6716, 3.2.1): a byte up to 251, or a larger one and four times the next

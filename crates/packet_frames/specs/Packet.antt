@@ -12,10 +12,12 @@ use Rattle.packet_toc.specs.Toc.{codeOf, frameSamples}
 use Rattle.packet_frames.specs.Frames.{Rule, R1, R2, R3, R4, R5, R6, R7, frameMax, samplesMax}
 use Rattle.packet_frames.specs.Frames.{Read, short, value, coded, codedTimes, paddingFrom}
 
--- How the frames of a packet lie in it. A shape has the number of frames, whether each has a length of its own, and the
--- bytes of padding at the end. It also has what follows the bytes that tell this, and the rule that the lengths obey.
+-- how the frames of a packet lie in it
 pub data Shape : Type 0 where
+  -- the rule that the packet breaks
   broken : Rule → Shape
+  -- the number of frames, whether each has a length of its own, the bytes of padding at the end, what follows the bytes that
+  -- say this, and the rule that the lengths obey
   shape : ℕ → Bool → ℕ → Bytes → Rule → Shape
 
 -- code 3 (RFC 6716, 3.2.5): the rule for its lengths by the bit for frames of different lengths
@@ -52,9 +54,11 @@ shapeOf (toc ∷ s) =
     (pick (eqb (codeOf toc) 2) (shape 2 true 0 s R4)
     (countedShape toc s)))
 
--- the sizes of the frames and what is left after the packet, or the rule that it breaks
+-- what is read of a packet
 pub data Parsed : Type 0 where
+  -- the rule that it breaks
   breaks : Rule → Parsed
+  -- the sizes of the frames and what is left after the packet
   frames : List ℕ → Bytes → Parsed
 
 -- frames of these sizes and p bytes of padding, in s

@@ -13,6 +13,7 @@ pub const FRAME_MAX: usize = 1275;
 const SAMPLES_MAX: usize = 5760;
 
 pub enum Found {
+    // there are too few bytes, or the packet is illegal
     Missing,
     // a number read at a place, and the place after it
     Value(usize, usize),
@@ -221,7 +222,9 @@ fn equal_frames(s: &[u8], at: usize, count: usize, padding: usize) -> Found
     Found::Value(count, s.len())
 }
 
-// How many frames a packet has, and the place after it; or it is illegal.
+// How many frames a packet has, and the place after it; `Missing` if it breaks one of the rules R1 to R7 (RULES.md, 6; RFC
+// 6716, 3.2, 3.4 and Appendix B). A self-delimited packet may end before the bytes do; any other takes all of them.
+// Example: `packet_frames(&[0x01, 0xaa, 0xbb], false)` is `Found::Value(2, 3)`, for two frames of one byte each.
 pub fn packet_frames(s: &[u8], delimited: bool) -> Found
     ensures { λ r. ⌜ FoundIs (now (s .entry)) 63 (outline (parse delimited (now (s .entry)))) r ⌝ }
 {

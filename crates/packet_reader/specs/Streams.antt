@@ -19,9 +19,11 @@ use Rattle.packet_reader.specs.declared.PacketRead.the-variants.{Samples
 abbrev pub samplesOf : Bytes → List ℕ → ℕ
 samplesOf b sizes = length sizes * frameSamples (getD b 0 0)
 
--- the lengths of some packets, the first and the later ones; or one of them is illegal
+-- the lengths in samples of some packets
 pub data Measured : Type 0 where
+  -- one of the packets is illegal
   illegal : Measured
+  -- the length of the first, and those of the later ones
   measured : ℕ → List ℕ → Measured
 
 abbrev pub withFirst : ℕ → Measured → Measured

@@ -103,7 +103,8 @@ fn is_single(bytes: &[u8]) -> bool
     (bytes.len() > 0) & ((bytes.len() < FRAME_MAX + 2) & (toc % 4 == 0))
 }
 
-// The same as `read_packet`. A packet of one frame is told at once, in so little code that it can be in its caller's loop.
+// The same as `read_packet` (RULES.md, 6). A legal packet of one stream with the code 0 is answered at once, in so little
+// code that it can be in its caller's loop. Example: `read_packet_quick(&[0xfc], 1)` gives `PacketRead::Samples(960)`.
 pub fn read_packet_quick(bytes: &[u8], streams: u64) -> PacketRead
     ensures { λ r. ⌜ toldPacket r ≡ readPacket (now (bytes .entry)) streams ⌝ }
 {

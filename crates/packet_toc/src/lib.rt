@@ -2,7 +2,8 @@
 ghost use mathlib.Core.Path.{_≡_};
 ghost use Rattle.packet_toc.specs.Toc.{frameSamples};
 
-// Samples in a frame at 48 kHz, by the config in a packet's first byte.
+// The samples of a frame at 48 kHz, by the config in a packet's first byte, its top five bits (RULES.md, 6; RFC 6716, 3.1).
+// Example: `frame_samples(0xfc)` is 960, for config 31.
 pub fn frame_samples(toc: u8) -> u32
     ensures { λ r. ⌜ r ≡ frameSamples toc ⌝ }
 {

@@ -120,6 +120,7 @@ fn update(tables: &[u32; 4096], r: u32, s: &[u8]) -> u32
     x
 }
 
+// The same by half bytes.
 fn half_update(halves: &[u32; 512], r: u32, s: &[u8]) -> u32
     ensures { λ x. ⌜ x ≡ sliced (halfEntryIn (now (halves .entry))) r (now (s .entry)) ⌝ }
 {
@@ -162,7 +163,8 @@ fn short_checksum(s: &[u8]) -> u32
     half_update(&halves, 0, s)
 }
 
-// The checksum of the bytes as they are. It refuses nothing.
+// The checksum of the bytes as they are (RULES.md, 3; RFC 3533, 6). It refuses nothing.
+// Example: `checksum(b"123456789")` is 0x89a1897f.
 pub fn checksum(s: &[u8]) -> u32
     ensures { λ x. ⌜ x ≡ crc 0 (now (s .entry)) ⌝ }
 {
@@ -187,8 +189,11 @@ fn head_checksum(tables: &[u32; 4096], page: &[u8]) -> u32
     block(tables, third, &zeros, 0, 4)
 }
 
-// The checksum of a page, its own checksum field taken as zeros. Of a shorter slice, those of the field's four bytes that it
-// has are taken as zeros: a slice that ends before the field gives the checksum of its bytes as they are. It refuses nothing.
+// The checksum of a page, its own checksum field taken as zeros (RULES.md, 3; RFC 3533, 6), by lent tables: those of
+// `page_crc_tables::table::tables` give the checksum, and others what they give. Of a shorter slice, those of the field's
+// four bytes that it has are taken as zeros: a slice that ends before the field gives the checksum of its bytes as they are.
+// It refuses nothing.
+// Example: by the right tables "OggS" and 23 zero bytes give 0x9ea1a511, whatever the bytes at places 22 to 25 become.
 pub fn page_checksum_with(tables: &[u32; 4096], page: &[u8]) -> u32
     ensures { λ x. ⌜ x ≡ pageSliced (entryIn (now (tables .entry))) (now (page .entry)) ⌝ }
 {
@@ -223,7 +228,8 @@ fn short_page_checksum(page: &[u8]) -> u32
     half_update(&halves, field, &page[b..])
 }
 
-// The same as `page_checksum_with`, by tables made here.
+// The same as `page_checksum_with`, by right tables that are made here (RULES.md, 3; RFC 3533, 6).
+// Example: of "OggS" and 23 zero bytes it is 0x9ea1a511.
 pub fn page_checksum(page: &[u8]) -> u32
     ensures { λ x. ⌜ x ≡ pageCrc (now (page .entry)) ⌝ }
 {

@@ -517,6 +517,8 @@ const HALVES: [u32; 512] = [
     3078281665,
 ];
 
+// The tables of half bytes, for the checksum of a page (RULES.md, 3; RFC 3533, 6). Each call copies 2 KiB.
+// Example: `halves()[17]` is 0x04c11db7, the register 2^24 after one zero byte.
 pub fn halves() -> [u32; 512]
     ensures { λ t. ⌜ RightHalves t ⌝ }
 {

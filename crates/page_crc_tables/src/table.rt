@@ -4100,7 +4100,8 @@ const TABLE: [u32; 4096] = [
     3952905904,
 ];
 
-// The tables. Each call copies 16 KiB, about 200 ns: who sums many pages makes them once and lends them.
+// The tables for the checksum of a page (RULES.md, 3; RFC 3533, 6). Each call copies 16 KiB, about 200 ns: who sums many
+// pages makes them once and lends them. Example: `tables()[1]` is 0x04c11db7, the register 2^24 after one zero byte.
 pub fn tables() -> [u32; 4096]
     ensures { λ t. ⌜ Right (entryIn t) ⌝ }
 {

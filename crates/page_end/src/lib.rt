@@ -10,8 +10,10 @@ pub enum End {
     Cut,
 }
 
-// Where the page that starts at place `at` of the buffer ends. It refuses nothing: 27 bytes or more that begin no page are
-// taken up to the end of the buffer, and feeding refuses them. Where fewer than 27 bytes are left, the answer is `Cut`.
+// Where the page that starts at place `at` of the buffer ends (RULES.md, 3). It refuses nothing: 27 bytes or more that begin
+// no page are taken up to the end of the buffer, and feeding refuses them. Where fewer than 27 bytes are left, or the buffer
+// ends before the page does, the answer is `Cut`.
+// Example: of "OggS" and 23 zero bytes `end_at(buffer, 0)` is `End::At(27)`; of the first 26 of them it is `End::Cut`.
 pub fn end_at(buffer: &[u8], at: usize) -> End
     ensures { λ r. ⌜ foundEnd r ≡ endAt (now (buffer .entry)) at ⌝ }
 {

@@ -33,7 +33,8 @@ pub struct PageHeader {
     pub sequence: u32,
 }
 
-// Whether the bytes begin with the capture pattern.
+// Whether the bytes begin with the capture pattern (RULES.md, 3; RFC 3533, 6).
+// Example: `has_capture(b"OggS and more")` is true, and `has_capture(b"Ogg")` is false.
 pub fn has_capture(s: &[u8]) -> bool
     ensures { λ r. ⌜ r ≡ hasCapture (now (s .entry)) ⌝ }
 {
@@ -41,28 +42,32 @@ pub fn has_capture(s: &[u8]) -> bool
     octets::begins_with(s, &capture)
 }
 
-// How many lacing values the page says that it has.
+// How many lacing values the page says that it has, in its byte 26 (RULES.md, 3; RFC 3533, 6); 0 where there is no such byte.
+// Example: of 27 bytes, the last of them 3, it is 3; of the first 26 of them it is 0.
 pub fn count_of(page: &[u8]) -> usize
     ensures { λ r. ⌜ Widened (countOf (now (page .entry))) r ⌝ }
 {
     octets::wide(octets::byte_at(page, COUNT_AT))
 }
 
-// The lacing values of a page; of fewer bytes than they take, those that are there.
+// The lacing values of a page (RULES.md, 3; RFC 3533, 6); of fewer bytes than they take, those that are there.
+// Example: where byte 26 of a page is 2, they are its bytes 27 and 28.
 pub fn lacing_of(page: &[u8]) -> &[u8]
     ensures { λ r. ⌜ now r ≡ lacingOf (now (page .entry)) ⌝ }
 {
     octets::part_of(page, LACING_AT, count_of(page))
 }
 
-// What follows the lacing values.
+// What follows the lacing values, up to the end of the bytes: the body of a whole page (RULES.md, 3; RFC 3533, 6).
+// Example: where byte 26 of a page is 2, it begins with byte 29.
 pub fn body_of(page: &[u8]) -> &[u8]
     ensures { λ r. ⌜ now r ≡ bodyOf (now (page .entry)) ⌝ }
 {
     octets::part_of(page, LACING_AT + count_of(page), page.len())
 }
 
-// The fields before the lacing values; a place past the end reads as zero.
+// The fields before the lacing values (RULES.md, 3; RFC 3533, 6); a place past the end reads as zero.
+// Example: `header_of(b"OggS\x00\x04")` has the flags 4, and the granule position, the serial and the sequence number 0.
 pub fn header_of(page: &[u8]) -> PageHeader
     ensures { λ r. ⌜ r ≡ headerOf (now (page .entry)) ⌝ }
 {

@@ -16,7 +16,8 @@ pub enum PageRead {
 }
 
 // The same as `read_page`, by lent tables: those of `page_crc_tables::table::tables` give the checksum, and others what they
-// give. Whoever reads many small pages makes the tables once.
+// give (RULES.md, 3). Whoever reads many small pages makes the tables once.
+// Example: by those tables "OggS" and 23 zero bytes are refused by 4, as `read_page` refuses them.
 pub fn read_page_with(tables: &[u32; 4096], page: &[u8]) -> PageRead
     ensures { λ r. ⌜ toldRead r ≡ readPage (pageSliced (entryIn (now (tables .entry)))) (now (page .entry)) ⌝ }
 {

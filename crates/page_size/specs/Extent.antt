@@ -12,10 +12,14 @@ use Rattle.page_size.specs.declared.Extent.{Extent}
 use Rattle.page_size.specs.declared.Extent.the-variants.{Ends, Short, NoPage}
 use Rattle.page_size.specs.Size.{sizeOf}
 
--- where a page would end, in the buffer or past it; its header or its lacing values are not all there; or no page starts here
+-- where a page would end
 pub data Reach : Type 0 where
+  -- at this place, in the buffer or past it
   endsAt : ℕ → Reach
-  unknown noStart : Reach
+  -- its header or its lacing values are not all there
+  unknown : Reach
+  -- no page starts here
+  noStart : Reach
 
 -- s is what the buffer has from the place `at` on
 unfoldable pub extentIn : Bytes → ℕ → Reach

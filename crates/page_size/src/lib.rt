@@ -10,7 +10,7 @@ use page_layout::VERSION_AT;
 pub enum Extent {
     // at a place of the buffer or past it
     Ends(usize),
-    // not to be told yet: its header or its lacing values are not all there
+    // not known yet: its header or its lacing values are not all there
     Short,
     // nowhere: no page starts here
     NoPage,
@@ -40,7 +40,10 @@ fn extent_in(s: &[u8], at: usize) -> Extent
     Extent::Ends(at + size_of(s))
 }
 
-// Where the page that starts at place `at` of a buffer would end.
+// Where the page that starts at place `at` of a buffer would end (RULES.md, 3; RFC 3533, 6). `Short`: fewer than 27 bytes
+// are there from `at` on, or its lacing values are cut. `NoPage`: 27 bytes or more are there and do not begin with "OggS".
+// The version and the checksum are not looked at.
+// Example: of "OggS" and 23 zero bytes `page_extent(buffer, 0)` is `Extent::Ends(27)`; of the first 26 it is `Short`.
 pub fn page_extent(buffer: &[u8], at: usize) -> Extent
     ensures { λ r. ⌜ toldExtent r ≡ pageExtent (now (buffer .entry)) at ⌝ }
 {
@@ -50,7 +53,8 @@ pub fn page_extent(buffer: &[u8], at: usize) -> Extent
     extent_in(&buffer[at..], at)
 }
 
-// Whether the bytes are exactly one whole page, of version 0. The checksum is not looked at.
+// Whether the bytes are exactly one whole page, of version 0 (RULES.md, 3; RFC 3533, 6). The checksum is not looked at.
+// Example: "OggS" and 23 zero bytes are one page; with one byte more they are not.
 pub fn is_one_page(page: &[u8]) -> bool
     ensures { λ r. ⌜ r ≡ isOnePage (now (page .entry)) ⌝ }
 {

@@ -20,7 +20,7 @@ use Rattle.page_layout.specs.Places.{capturePattern, checksumAt, lacingAt}
 use Rattle.page_writer.specs.declared.PageWritten.{PageWritten}
 use Rattle.page_writer.specs.declared.PageWritten.the-variants.{Bytes as Written, Refused}
 
--- the page's own checksum put into its field; bytes that end before the field stay
+-- the page's own checksum put into its field; bytes that end before the field's end stay
 unfoldable pub withChecksum : Bytes → Bytes
 withChecksum p = copied p checksumAt (octets 4 (pageCrc p))
 

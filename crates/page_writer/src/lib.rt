@@ -17,7 +17,8 @@ pub enum PageWritten {
     Refused(Refusal),
 }
 
-// Puts the page's checksum into its field. It refuses nothing: bytes that end before the field's end stay as they are.
+// Puts the page's checksum into its field (RULES.md, 3; RFC 3533, 6). It refuses nothing: bytes that end before the field's
+// end stay as they are. Example: "OggS" and 23 zero bytes get the bytes 11 a5 a1 9e, in hexadecimal, at places 22 to 25.
 pub fn renew_checksum(page: &mut [u8])
     ensures { λ _. ⌜ now (page .exit) ≡ withChecksum (now (page .entry)) ⌝ }
 {

@@ -42,7 +42,8 @@ pub enum Fed {
 
 // ---- readers
 
-// A reader that waits for the first page of a stream. It refuses nothing.
+// A reader that waits for the first page of a stream (RULES.md, 7). It refuses nothing.
+// Example: `held(start())` is 0, and `is_ended(start())` is false.
 pub fn start() -> Reader
     ensures { λ r. ⌜ knownAs r ≡ started ⌝ }
 {
@@ -53,7 +54,8 @@ pub fn start() -> Reader
 }
 
 // A reader that waits for any audio page of a stream with this header. It skips no samples. 23: `head_writer::write_head`
-// would refuse the fields by 23.
+// would refuse the fields by 23 (RULES.md, 9).
+// Example: right fields give `Opened::At(reader)`, and `position(reader)` is `Position::Joined`.
 pub fn open(head: Head) -> Opened
     ensures { λ r. ⌜ toldOpened r ≡ openPartWay head ⌝ }
 {
@@ -63,14 +65,16 @@ pub fn open(head: Head) -> Opened
     }
 }
 
-// The serial of the last page accepted, 0 before the first.
+// The serial of the last page accepted, 0 before the first (RULES.md, 3). It refuses nothing.
+// Example: `serial(start())` is 0, and after an accepted page with serial 7 it is 7.
 pub fn serial(reader: Reader) -> u32
     ensures { λ r. ⌜ r ≡ reader .core .serial ⌝ }
 {
     reader.core.serial
 }
 
-// Whether the last page accepted was marked end of stream.
+// Whether the last page accepted was marked last, so that 2 holds of any bytes (RULES.md, 2).
+// Example: `is_ended(start())` is false.
 pub fn is_ended(reader: Reader) -> bool
     ensures { λ r. ⌜ r ≡ isEnded (reader .core .phase) ⌝ }
 {
@@ -79,7 +83,8 @@ pub fn is_ended(reader: Reader) -> bool
     feed_phase::is_ended(phase)
 }
 
-// The last granule position of an audio page, where there is one yet.
+// The last granule position of an audio page, where there is one yet (RULES.md, 8). It refuses nothing.
+// Example: after an accepted page where an audio packet completes, with granule position 960, it is `Position::At(960)`.
 pub fn position(reader: Reader) -> Position
     ensures { λ r. ⌜ r ≡ reader .core .position ⌝ }
 {
@@ -87,7 +92,8 @@ pub fn position(reader: Reader) -> Position
     core.position
 }
 
-// How many bytes of the carry buffer the next feeding needs as this one left them.
+// How many bytes of the carry buffer the next feeding needs as this one left them (RULES.md, 7). It refuses nothing.
+// Example: after an accepted audio page with the lacing values 10 and 255 it is 255, the bytes of the packet that goes on.
 pub fn held(reader: Reader) -> usize
     ensures { λ r. ⌜ r ≡ heldOf (reader .core .pending) ⌝ }
 {
@@ -130,8 +136,9 @@ pub fn feed(
     fed_of(feed_page::feed_core(reader.core, reader.tally, page, carry, ends, lengths, kept))
 }
 
-// The same as `feed`, by lent tables: those of `page_crc_tables::table::tables` give the checksum, and others what they give.
-// Whoever feeds many small pages makes the tables once.
+// The same as `feed`, by lent tables: those of `page_crc_tables::table::tables` give the checksum, and others what they give
+// (RULES.md, 3). Whoever feeds many small pages makes the tables once.
+// Example: with the tables of `page_crc_tables::table::tables` a page has the answer that `feed` gives.
 pub fn feed_with(
     tables: &[u32; 4096],
     reader: Reader,
@@ -173,14 +180,15 @@ pub enum StateFed {
     Refused(Refusal),
 }
 
-// The numbers of a reader just started. It refuses nothing.
+// The numbers of a reader just started (RULES.md, 14). It refuses nothing. Example: they are sixteen zeros.
 pub fn start_state() -> [u64; 16]
     ensures { λ r. ⌜ StandFor r started ⌝ }
 {
     feed_numbers::numbers_of(feed_start::start_core(), Tally { skip: 0 })
 }
 
-// The same as `open`, into sixteen numbers. A refusal, of 23, changes none.
+// The same as `open`, into sixteen numbers (RULES.md, 14). A refusal, of 23, changes none.
+// Example: right fields with 1 stream and pre-skip 312 leave 3, 0, 0, 1, 0, 0, 0, 1, 312 and seven zeros.
 pub fn open_state(head: Head, state: &mut [u64; 16]) -> StateOpened
     ensures { λ r. ⌜ StateOpenedIs (openPartWay head) r (now (state .entry)) (now (state .exit)) ⌝ }
 {
@@ -207,7 +215,8 @@ fn keep(fed: PageFed, state: &mut [u64; 16]) -> StateFed
     }
 }
 
-// The same as `feed` with a reader in sixteen numbers. An accepted page leaves those of the next reader; a refusal changes none.
+// The same as `feed` with a reader in sixteen numbers (RULES.md, 14). An accepted page leaves those of the next reader; a
+// refusal changes none. Example: sixteen zeros, fed with a right first page of serial 7, get 1 in place 0 and 7 in place 5.
 pub fn feed_state(
     state: &mut [u64; 16],
     page: &[u8],

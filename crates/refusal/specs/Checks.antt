@@ -5,9 +5,9 @@ use mathlib.Core.Option.{Option, none, some}
 use Rattle.octets.specs.Pick.{pick}
 use Rattle.refusal.specs.declared.Refusal.{Refusal}
 
--- a check: the refusal, and the test under which it is given
 infix 68 _when_
 pub data Check : Type 0 where
+  -- the refusal, and the test under which it is given
   _when_ : Refusal → Bool → Check
 
 -- the first answer, or else the second

@@ -15,7 +15,7 @@ pub enum Refusal {
     OtherSerial,
     // 6: the sequence number is not the one that is due
     OutOfSequence,
-    // 7: an unknown flag is set, or the first mark or the end mark is wrong
+    // 7: an unknown flag is set, or the first mark or the last mark is wrong
     WrongFlags,
     // 8: the continued mark is set and no packet is unfinished, or the other way round
     WrongContinued,
@@ -27,9 +27,9 @@ pub enum Refusal {
     WrongGranule,
     // 12: the identification header's signature, version or length is wrong
     BadHead,
-    // 13: its channel mapping is wrong, or a number of streams is not from 1 to 255
+    // 13: the channel mapping of the identification header is wrong, or a number of streams is not from 1 to 255
     BadMapping,
-    // 14: the packet is no comment header
+    // 14: the comment header is wrong
     BadTags,
     // 15: an Opus packet is illegal
     IllegalPacket,
@@ -53,7 +53,7 @@ pub enum Refusal {
     ClockRange,
 }
 
-// The number of a refusal.
+// The number of a refusal (RULES.md, 2). Example: `number(Refusal::WrongChecksum)` is 4.
 pub fn number(r: Refusal) -> u8
     ensures { λ n. ⌜ n ≡ numberOf r ⌝ }
 {

@@ -9,9 +9,13 @@ use Rattle.stream.specs.declared.Phase.{Phase}
 use Rattle.stream.specs.declared.Phase.the-variants.{First, Comment, Audio, Opened, Ended}
 use Rattle.stream.specs.Page.{Page, continued}
 
--- the unfinished packet: none, one of which n bytes are held, or one that is dropped
+-- the unfinished packet
 pub data Carried : Type 0 where
-  nothing dropped : Carried
+  -- none
+  nothing : Carried
+  -- one that is dropped
+  dropped : Carried
+  -- one of which n bytes are held
   held : ℕ → Bytes → Carried
 
 pub record State : Type 0 where

@@ -46,7 +46,8 @@ fn all_within(low: u8, high: u8, s: &[u8]) -> bool
     true
 }
 
-// Whether a packet may hold this comment: it is UTF-8, and the bytes of its name, if it has one, lie in 0x20 to 0x7D.
+// Whether a packet may hold this comment (RULES.md, 5): it is UTF-8, and the bytes of its name, if it has one, lie in 0x20 to
+// 0x7D. Example: "a~=1" may not be held, since "~" is 0x7E, and "a~", which has no name, may.
 pub fn right_comment(c: &[u8]) -> bool
     ensures { λ r. ⌜ r ≡ rightComment (now (c .entry)) ⌝ }
 {

@@ -29,7 +29,8 @@ pub enum PartRead {
     Refused(Refusal),
 }
 
-// Whether a text lies inside the packet whose length is at this place.
+// Whether the text whose length is at this place lies inside the packet, with the four bytes of that length (RULES.md, 5).
+// Example: `fits_at(&[1, 0, 0, 0, 0x61], 0)` is true, and `fits_at(&[2, 0, 0, 0, 0x61], 0)` is false.
 pub fn fits_at(b: &[u8], at: usize) -> bool
     ensures { λ r. ⌜ r ≡ fitsAt (now (b .entry)) at ⌝ }
 {
@@ -43,7 +44,8 @@ pub fn fits_at(b: &[u8], at: usize) -> bool
 }
 
 // Where the text lies whose length is at this place: a listing goes from the end of each comment to the next. 14: the
-// length, or the text, passes the end.
+// length, or the text, passes the end (RULES.md, 5).
+// Example: `find_text(&[1, 0, 0, 0, 0x61], 0)` gives the start 4 and the size 1.
 pub fn find_text(b: &[u8], at: usize) -> PartRead
     ensures { λ r. ⌜ toldPart r ≡ findText (now (b .entry)) at ⌝ }
 {
@@ -57,14 +59,17 @@ pub fn find_text(b: &[u8], at: usize) -> PartRead
     })
 }
 
-// How many bytes the packet says that its vendor has.
+// How many bytes the packet says that its vendor has: the number at place 8 (RULES.md, 5). It refuses nothing.
+// Example: after "OpusTags" the bytes 3, 0, 0, 0 give 3.
 pub fn vendor_size(b: &[u8]) -> u32
     ensures { λ r. ⌜ r ≡ number 4 (now (b .entry)) vendorPlace ⌝ }
 {
     number_reader::number32(b, VENDOR_PLACE)
 }
 
-// How many comments the packet says that it has.
+// How many comments the packet says that it has: the number after the vendor (RULES.md, 5). It refuses nothing, and a packet
+// that `tags_reader::read_tags` refuses may say any number.
+// Example: after an empty vendor the bytes 2, 0, 0, 0 at place 12 give 2.
 pub fn count_of(b: &[u8]) -> usize
     ensures { λ r. ⌜ r ≡ countOf (now (b .entry)) ⌝ }
 {
@@ -72,7 +77,8 @@ pub fn count_of(b: &[u8]) -> usize
     number_reader::number32(b, VENDOR_START + vendor) as usize
 }
 
-// The place of the length of the first comment, for a listing. It may lie past the end where the packet is wrong.
+// The place of the length of the first comment, for a listing (RULES.md, 5). It may lie past the end where the packet is
+// wrong. It refuses nothing. Example: with a vendor of 3 bytes it is 19.
 pub fn first_comment(b: &[u8]) -> usize
     ensures { λ r. ⌜ r ≡ firstPlace (now (b .entry)) ⌝ }
 {

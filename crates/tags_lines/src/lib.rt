@@ -10,7 +10,8 @@ use tags_comment::GainRead;
 // The most bytes that end the line of a comment.
 const END_MAX: usize = 35;
 
-// A text after its name, escaped, and what ends the line.
+// The line of a text: its name, the text escaped, and `end` (RULES.md, 13). Where it does not fit, nothing is put.
+// Example: the name "vendor ", the text `a\b` and a line feed put `vendor a\\b` and the line feed.
 pub fn put_text(out: &mut [u8], at: usize, name: &[u8], text: &[u8], end: &[u8]) -> usize
     ensures { λ r. ⌜ Put (now (out .entry)) at
         (textLine (now (name .entry)) (now (text .entry)) (now (end .entry))) r (now (out .exit)) ⌝ }
@@ -50,7 +51,9 @@ fn lay_end(out: &mut [u8], c: &[u8]) -> usize
     }
 }
 
-// A comment.
+// The line of a comment: "comment ", the comment escaped, and after a right gain its decibels (RULES.md, 13). Where it does
+// not fit, nothing is put.
+// Example: for "R128_TRACK_GAIN=-573" it is "comment R128_TRACK_GAIN=-573", a tab, "-2.23828125 dB" and a line feed.
 pub fn put_comment(out: &mut [u8], at: usize, c: &[u8]) -> usize
     ensures { λ r. ⌜ Put (now (out .entry)) at (commentLine (now (c .entry))) r (now (out .exit)) ⌝ }
 {

@@ -17,14 +17,16 @@ fn part_in(b: &[u8], found: PartRead) -> &[u8]
     }
 }
 
-// The vendor, empty where `tags_reader::read_tags` refuses.
+// The vendor, empty where `tags_reader::read_tags` refuses (RULES.md, 5).
+// Example: of a right packet with the vendor "libopus" it is these 7 bytes of the packet, from place 12 on.
 pub fn vendor(b: &[u8]) -> &[u8]
     ensures { λ r. ⌜ now r ≡ partIn (now (b .entry)) (findVendor (now (b .entry))) ⌝ }
 {
     part_in(b, tags_reader::find_vendor(b))
 }
 
-// Comment i, the first being 0; empty where `comment_number` is not 0.
+// Comment i, the first being 0; empty where `comment_number` is not 0 (RULES.md, 5).
+// Example: of a right packet with the comments "a=1" and "b=2", `comment(b, 1)` is "b=2", and `comment(b, 2)` is empty.
 pub fn comment(b: &[u8], i: usize) -> &[u8]
     ensures { λ r. ⌜ now r ≡ partIn (now (b .entry)) (findComment (now (b .entry)) i) ⌝ }
 {
@@ -32,7 +34,8 @@ pub fn comment(b: &[u8], i: usize) -> &[u8]
 }
 
 // The number by which comment i is refused, 0 for none. 14: the packet is no comment header. 20: not 14, and it has no such
-// comment.
+// comment (RULES.md, 2). Example: of a right packet with two comments, `comment_number(b, 1)` is 0, and
+// `comment_number(b, 2)` is 20.
 pub fn comment_number(b: &[u8], i: usize) -> u8
     ensures { λ r. ⌜ r ≡ numberIn (findComment (now (b .entry)) i) ⌝ }
 {

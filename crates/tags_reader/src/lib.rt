@@ -114,7 +114,8 @@ fn is_tags(b: &[u8]) -> bool
     is_right(walk_by(b, start, n))
 }
 
-// The number of comments. 14: the packet is no comment header.
+// The number of comments. 14: the packet is no comment header (RULES.md, 5).
+// Example: a right packet with the vendor "v" and the comments "a=1" and "b=2" gives `TagsRead::Count(2)`.
 pub fn read_tags(b: &[u8]) -> TagsRead
     ensures { λ r. ⌜ toldCount r ≡ retold commentCount (readTags (now (b .entry))) ⌝ }
 {
@@ -124,7 +125,8 @@ pub fn read_tags(b: &[u8]) -> TagsRead
     TagsRead::Count(tags_layout::count_of(b))
 }
 
-// Where the vendor lies. 14: the packet is no comment header.
+// Where the vendor lies. 14: the packet is no comment header (RULES.md, 5).
+// Example: a right packet with the vendor "v" gives the start 12 and the size 1.
 pub fn find_vendor(b: &[u8]) -> PartRead
     ensures { λ r. ⌜ toldPart r ≡ findVendor (now (b .entry)) ⌝ }
 {

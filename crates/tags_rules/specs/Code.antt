@@ -8,9 +8,11 @@ use Rattle.tags_rules.specs.declared.Gains.{Gains}
 use Rattle.tags_rules.specs.declared.Gains.the-variants.{Wrong, Seen}
 use Rattle.tags_rules.specs.Right.{trackGain, albumGain}
 
--- a comment judged: it is wrong, or right, and up to it the track's gain and the album's were seen or not
+-- a comment judged
 pub data Judgement : Type 0 where
+  -- it is wrong
   wrong : Judgement
+  -- it is right, and up to it the track's gain and the album's were seen or not
   seen : Bool → Bool → Judgement
 
 -- what the code's answer tells

@@ -3,3 +3,4 @@ pub mod Laying
 pub mod Taking
 pub mod RoundTrip
 pub mod Again
+pub mod Instances

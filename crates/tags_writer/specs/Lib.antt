@@ -1,3 +1,4 @@
 pub mod Writing
 pub mod Code
 pub mod Statements
+pub mod Instances

@@ -12,7 +12,8 @@ ghost use Rattle.text_decimal.specs.Decimal.{decimal};
 ghost use Rattle.text_decimal.specs.Digits.{lowest};
 ghost use Rattle.text_decimal.specs.Code.{Counted, HasThreeDigits, HasRoom};
 
-// How many digits a number has.
+// How many decimal digits a number has, from 1 to 20 (RULES.md, 11).
+// Example: `digits_of(0)` is 1, and `digits_of(960)` is 3.
 pub fn digits_of(x: u64) -> usize
     ensures { λ r. ⌜ Counted x r ⌝ }
 {
@@ -66,7 +67,8 @@ fn put_four(out: &mut [u8], at: usize, x: u64)
     put_word(out, at, four_digits(x));
 }
 
-// The last four digits of a number, leading zeros too, or nothing where they do not fit.
+// Puts the last four digits of a number, leading zeros too, from place `at` on, or nothing where they do not fit.
+// Example: `put_last_four(&mut out, 0, 120960)` puts "0960" into an `out` of four bytes or more.
 pub fn put_last_four(out: &mut [u8], at: usize, x: u64)
     ensures { λ _. ⌜ now (out .exit) ≡ copied (now (out .entry)) at (lowest 4 x) ⌝ }
 {
@@ -160,7 +162,9 @@ fn lacks_digits(len: usize, at: usize, x: u64, more: usize) -> bool
     octets::is_short(len, at, digits_of(x) + more)
 }
 
-// The digits of a number.
+// Puts the digits of a number from place `at` on, with no leading zeros (RULES.md, 11), or nothing where they do not fit. It
+// answers the place after what it put: `at` itself where that is nothing.
+// Example: `put_decimal(&mut out, 0, 960)` puts "960" and answers 3; into two bytes it puts nothing and answers 0.
 pub fn put_decimal(out: &mut [u8], at: usize, x: u64) -> usize
     ensures { λ r. ⌜ Put (now (out .entry)) at (decimal x) r (now (out .exit)) ⌝ }
 {
@@ -170,7 +174,9 @@ pub fn put_decimal(out: &mut [u8], at: usize, x: u64) -> usize
     lay_decimal(out, at, x)
 }
 
-// The digits of a number, and a byte after them. Most lengths of packets have three digits: they are one store.
+// Puts the digits of a number and a byte after them, or nothing where they do not all fit, and answers as `put_decimal`
+// does. Most lengths of packets have three digits: they are one store.
+// Example: `put_ended(&mut out, 0, 960, b' ')` puts "960 " and answers 4; into three bytes it puts nothing and answers 0.
 pub fn put_ended(out: &mut [u8], at: usize, x: u64, b: u8) -> usize
     ensures { λ r. ⌜ Put (now (out .entry)) at (decimal x ++ (b ∷ [])) r (now (out .exit)) ⌝ }
 {

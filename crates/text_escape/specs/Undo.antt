@@ -6,11 +6,14 @@ use Rattle.octets.specs.Pick.{pick}
 use Rattle.octets.specs.Octets.{Bytes}
 use Rattle.text_escape.specs.Escape.{backslash}
 
--- what was read of an escape: nothing, its backslash, "\x", or that and the first digit
+-- what was read of an escape
 pub data Begun : Type 0 where
   nothing : Begun
+  -- its backslash
   slash : Begun
+  -- "\x"
   slashX : Begun
+  -- "\x" and the first digit, by what it means
   digit : ℕ → Begun
 
 -- what a digit "0" to "9" or "A" to "F" means

@@ -90,6 +90,7 @@ fn put_image(out: &mut [u8], at: usize, n: usize, b: u8) -> usize
     at + 1
 }
 
+// How many bytes `put_image` puts.
 fn image_length(n: usize, b: u8) -> usize
     ensures { λ r. ⌜ r ≡ length (imageOf (isShown n) b) ⌝ }
 {
@@ -99,13 +100,15 @@ fn image_length(n: usize, b: u8) -> usize
     if b == b'\\' { 2 } else { 4 }
 }
 
+// n less one, 0 where n is 0.
 fn less_one(n: usize) -> usize
     ensures { λ r. ⌜ r ≡ n - 1 ⌝ }
 {
     if n == 0 { 0 } else { n - 1 }
 }
 
-// Whether the escaped text has at most as many bytes as this.
+// Whether the text, escaped (RULES.md, 13), has at most `room` bytes.
+// Example: `fits_within(b"a\n", 5)` is true, and `fits_within(b"a\n", 4)` is false: escaped it is `a\x0A`, of five bytes.
 pub fn fits_within(s: &[u8], room: usize) -> bool
     ensures { λ r. ⌜ r ≡ leb (length (escaped (now (s .entry)))) room ⌝ }
 {
@@ -142,7 +145,9 @@ fn lay_escaped(out: &mut [u8], at: usize, s: &[u8]) -> usize
     place
 }
 
-// Puts a text, escaped, into a lent buffer, or nothing where it does not fit, and answers the place after it.
+// Puts a text, escaped (RULES.md, 13), into a lent buffer from place `at` on, or nothing where it does not fit. It answers
+// the place after what it put: `at` itself where that is nothing.
+// Example: `put_escaped(&mut out, 0, b"a\n")` puts the five bytes `a\x0A` and answers 5; into four it puts nothing.
 pub fn put_escaped(out: &mut [u8], at: usize, s: &[u8]) -> usize
     ensures { λ r. ⌜ Put (now (out .entry)) at (escaped (now (s .entry))) r (now (out .exit)) ⌝ }
 {

@@ -7,6 +7,7 @@ ghost use Rattle.text_put.specs.Writing.{Put, Laid};
 ghost use Rattle.text_decimal.specs.Digits.{lowest};
 ghost use Rattle.text_gain.specs.Numbers.{Sized, signOf, signedDecimal, decibels, decibelsEnd};
 
+// The number without its sign.
 fn size_of(g: i16) -> u64
     ensures { λ r. ⌜ Sized g r ⌝ }
 {
@@ -65,7 +66,9 @@ fn lay_end(out: &mut [u8], g: i16) -> usize
     text_put::put_bytes(out, last, b"\n")
 }
 
-// A signed number: "-" where it is below zero, and its digits.
+// Puts a signed number (RULES.md, 13): "-" where it is below zero, and its digits. Nothing is put where they do not all fit.
+// It answers the place after what it put: `at` itself where that is nothing.
+// Example: `put_signed(&mut out, 0, -573)` puts "-573" into an `out` of four bytes or more, and answers 4.
 pub fn put_signed(out: &mut [u8], at: usize, g: i16) -> usize
     ensures { λ r. ⌜ Put (now (out .entry)) at (signedDecimal g) r (now (out .exit)) ⌝ }
 {
@@ -74,7 +77,9 @@ pub fn put_signed(out: &mut [u8], at: usize, g: i16) -> usize
     text_put::put_bytes(out, at, octets::part_of(&text, 0, n))
 }
 
-// What ends the line of a gain: a tab, the gain in decibels, exact to the last of eight decimals, and a line feed.
+// Puts what ends the line of a gain (RULES.md, 13): a tab, the gain in decibels, exact to the last of eight decimals, and a
+// line feed. Nothing is put where they do not all fit. It answers as `put_signed` does.
+// Example: `put_decibels(&mut out, 0, -573)` puts a tab, "-2.23828125 dB" and a line feed, and answers 16, if they fit.
 pub fn put_decibels(out: &mut [u8], at: usize, g: i16) -> usize
     ensures { λ r. ⌜ Put (now (out .entry)) at (decibelsEnd g) r (now (out .exit)) ⌝ }
 {

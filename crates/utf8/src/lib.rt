@@ -138,7 +138,9 @@ fn no_character() -> Character
     Character { size: 0, number: 0 }
 }
 
-// The right character that begins at this place.
+// The right character that begins at this place (RULES.md, 5; RFC 3629, 3). Where none does, and past the end, its size and
+// its number are 0.
+// Example: `find_character(b"\xC3\xA9", 0)` has the size 2 and the number 0xE9, and at place 1 both are 0.
 pub fn find_character(s: &[u8], at: usize) -> Character
     ensures { λ r. ⌜ r ≡ characterAt (now (s .entry)) at ⌝ }
 {
@@ -156,7 +158,8 @@ pub fn find_character(s: &[u8], at: usize) -> Character
     }
 }
 
-// Whether the bytes are UTF-8: shortest forms, no surrogates, no character above 10FFFF, none cut short.
+// Whether the bytes are UTF-8 (RULES.md, 5; RFC 3629, 3): shortest forms, no surrogates, no character above 10FFFF, none cut
+// short. Example: `is_utf8(b"\xC3\xA9")` is true, and `is_utf8(b"\xC3")` is false.
 pub fn is_utf8(s: &[u8]) -> bool
     ensures { λ r. ⌜ r ≡ utf8 (now (s .entry)) ⌝ }
 {

@@ -1,10 +1,10 @@
--- `embulgri::embulgri_feed` meets its contract. Assumes nothing.
+-- `embulgri::feeding::embulgri_feed` meets its contract. Assumes nothing.
 use borrow.Author.Needs.{needs}
 use denote.Ref.{now}
 use Rattle.stream.specs.Lent.{lentOf}
-use Rattle.embulgri.proofs.Feeding.{fed, unfed}
-use Rattle.embulgri.proofs.embulgri_feed.Statement.{statement}
-use Rattle.embulgri.proofs.embulgri_feed.Tie as tie
+use Rattle.embulgri.proofs.Readers.{fed, unfed}
+use Rattle.embulgri.proofs.feeding.embulgri_feed.Statement.{statement}
+use Rattle.embulgri.proofs.feeding.embulgri_feed.Tie as tie
 
 returns : tie.Need-returns
 returns c =

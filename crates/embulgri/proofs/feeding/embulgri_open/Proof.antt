@@ -1,10 +1,10 @@
--- `embulgri::embulgri_open` meets its contract. Assumes nothing.
+-- `embulgri::feeding::embulgri_open` meets its contract. Assumes nothing.
 use borrow.Author.Needs.{needs}
 use denote.Ref.{now}
 use Rattle.octets.proofs.Tests.{failed, held}
-use Rattle.embulgri.proofs.Feeding.{open-unfit, opened, unopened}
-use Rattle.embulgri.proofs.embulgri_open.Statement.{statement}
-use Rattle.embulgri.proofs.embulgri_open.Tie as tie
+use Rattle.embulgri.proofs.Readers.{open-unfit, opened, unopened}
+use Rattle.embulgri.proofs.feeding.embulgri_open.Statement.{statement}
+use Rattle.embulgri.proofs.feeding.embulgri_open.Tie as tie
 
 returns : tie.Need-returns
 returns c =
