@@ -53,7 +53,8 @@ uint32_t embulgri_packet_read(const uint8_t *packet, size_t n, uint64_t streams,
  * gain (its 16 bits, two's complement, as a number from 0 to 65535), mapping family, stream count, coupled count.
  * mapping: the index of each channel, then zeros. Family 0 has no table: its stream count is 1, its coupled count is
  * channels - 1, and its indices are 0 and 1.
- *   12  the signature is wrong, the version is not 1, or n is not 19 for family 0, 21 + channels for any other family
+ *   12  the signature is wrong, the version is above 15, n is below 19 for family 0, 21 + channels for any other family,
+ *       or n is above that in version 0 or 1
  *   13  not 12, and the channel mapping is wrong: channels is not 1 or 2 for family 0, 1 to 8 for family 1, 1 to 255
  *       for family 255, or the family is another; the stream count is 0, the coupled count is above it, or their sum is
  *       above 255; or an index is neither below their sum nor 255
@@ -146,8 +147,8 @@ void embulgri_start(uint64_t state[16]);
 
 /* A reader that waits for any audio page of a stream with this identification header. fields and mapping are as
  * embulgri_head_read stores them. A packet that began before that page is not listed, and the pre-skip is not skipped.
- *   23  embulgri_head_write would refuse the fields by 23
- *   0   it would not; the 16 numbers are stored
+ *   23  the version is above 15, or embulgri_head_write would refuse the fields with version 1 by 23
+ *   0   neither; the 16 numbers are stored
  * Example: the numbers 1, 2, 312, 48000, 0, 0, 1, 1 with the mapping 0, 1 and zeros store 3, 0, 0, 1, 0, 0, 0, 1, 312
  * and seven zeros. */
 uint32_t embulgri_open(const uint64_t fields[8], const uint8_t mapping[255], uint64_t state[16]);

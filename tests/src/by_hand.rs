@@ -36,6 +36,11 @@ pub fn page(flags: u64, granule: u64, sequence: u32, pieces: &[&[u8]]) -> Vec<u8
         .enumerate()
         .map(|(place, bytes)| (bytes.to_vec(), ends(place, bytes)))
         .collect();
+    page_of(flags, granule, sequence, &pieces)
+}
+
+/// The bytes of a page of pieces, each with whether it ends its packet.
+pub fn page_of(flags: u64, granule: u64, sequence: u32, pieces: &[(Vec<u8>, bool)]) -> Vec<u8> {
     let mut page = Page {
         flags,
         granule,
@@ -44,7 +49,7 @@ pub fn page(flags: u64, granule: u64, sequence: u32, pieces: &[&[u8]]) -> Vec<u8
         lacing: Vec::new(),
         body: Vec::new(),
     };
-    put_pieces(&mut page, &pieces);
+    put_pieces(&mut page, pieces);
     ogg::encode(&page)
 }
 

@@ -2,9 +2,9 @@
 
 use crate::feed_faults::Case;
 use crate::feeding::{HEADER_SHAPE, LAST, NO_GRANULE, WRONG_FLAGS, WRONG_GRANULE};
-use crate::head::{self, BAD_HEAD, BAD_MAPPING};
+use crate::head::{BAD_HEAD, BAD_MAPPING};
 use crate::head_damages;
-use crate::head_inputs::head;
+use crate::head_inputs::{head, head_to_read, packet, version};
 use crate::inputs::{change, Change};
 use crate::random::Random;
 use crate::reader::Unfinished;
@@ -48,7 +48,8 @@ pub const FIRST_PAGE: &[Change<Case>] = &[
         put_granule,
     ),
     change("a wrong header", &[BAD_HEAD], |random, case| {
-        let mut packet = head::encode(&head(random));
+        let head = head_to_read(random);
+        let mut packet = packet(random, &head);
         let damage = random.pick(head_damages::DAMAGES);
         (damage.apply)(random, &mut packet);
         case.put(&[(packet, true)])
@@ -63,7 +64,8 @@ pub const FIRST_PAGE: &[Change<Case>] = &[
         let mut head = head(random);
         let damage = random.pick(head_damages::WRONG_MAPPINGS);
         (damage.apply)(random, &mut head);
-        case.put(&[(head::encode(&head), true)])
+        head.version = version(random);
+        case.put(&[(packet(random, &head), true)])
     }),
 ];
 

@@ -4,12 +4,19 @@
 
 use crate::ogg::{take, NO_ROOM};
 
-/// The signature, the version or the length is wrong.
+/// The signature is wrong, the version is not read, or the length is not one that the version allows.
 pub const BAD_HEAD: u32 = 12;
 /// The header is whole but its channel mapping is wrong.
 pub const BAD_MAPPING: u32 = 13;
-/// The writer was given what reading never gives.
+/// The writer was given what it does not write, or opening part way what reading never gives.
 pub const UNFIT_FIELDS: u32 = 23;
+
+/// The last version that is read: the upper four bits of the byte are zero.
+pub const LAST_READ: u64 = 15;
+/// The last version whose headers end with their fields. Later ones may have more bytes.
+pub const LAST_EXACT: u64 = 1;
+/// The version that is written.
+pub const WRITTEN: u64 = 1;
 
 /// The length of a header without a channel mapping table.
 pub const SHORTEST: usize = 19;
@@ -78,11 +85,19 @@ impl Head {
         }
     }
 
-    /// Whether the writer's rules take it.
-    pub fn is_legal(&self) -> bool {
+    /// Whether the writer takes it.
+    pub fn is_writable(&self) -> bool {
+        self.version == WRITTEN && self.is_legal_but_for_its_version()
+    }
+
+    /// Whether reading can have given it, so that opening part way takes it.
+    pub fn is_readable(&self) -> bool {
+        self.version <= LAST_READ && self.is_legal_but_for_its_version()
+    }
+
+    fn is_legal_but_for_its_version(&self) -> bool {
         let mut sized = self.fields().into_iter().zip(WIDTHS);
         sized.all(|(field, width)| field >> width == 0)
-            && self.version == 1
             && self.has_legal_mapping()
             && (self.family != 0 || self.has_table_of_family_0())
             && self.mapping[self.channels as usize..] == [0; PLACES][self.channels as usize..]
@@ -139,7 +154,7 @@ pub fn read(packet: &[u8]) -> Result<Head, u32> {
 
 /// The bytes to be written to an output of `room` bytes, or the refusal's number.
 pub fn write(head: &Head, room: usize) -> Result<Vec<u8>, u32> {
-    if !head.is_legal() {
+    if !head.is_writable() {
         Err(UNFIT_FIELDS)
     } else if room < head.length() {
         Err(NO_ROOM)
@@ -148,14 +163,14 @@ pub fn write(head: &Head, room: usize) -> Result<Vec<u8>, u32> {
     }
 }
 
-/// The header that the bytes are, whatever its channel mapping, if they are exactly one of version
-/// 1.
+/// The header that the bytes are, whatever its channel mapping, if its version is read and they are
+/// its fields, with more bytes only where the version may have them.
 fn split(packet: &[u8]) -> Option<Head> {
     let mut rest = packet;
-    if take(&mut rest)? != *b"OpusHead" || take(&mut rest)? != [1] {
+    if take(&mut rest)? != *b"OpusHead" {
         return None;
     }
-    let [channels] = take(&mut rest)?;
+    let [version, channels] = take(&mut rest)?;
     let pre_skip = u16::from_le_bytes(take(&mut rest)?);
     let rate = u32::from_le_bytes(take(&mut rest)?);
     let gain = i16::from_le_bytes(take(&mut rest)?);
@@ -170,7 +185,7 @@ fn split(packet: &[u8]) -> Option<Head> {
     let mut mapping = [0; PLACES];
     mapping[..indices.len()].copy_from_slice(&indices);
     let head = Head {
-        version: 1,
+        version: version.into(),
         channels: channels.into(),
         pre_skip: pre_skip.into(),
         rate: rate.into(),
@@ -180,5 +195,6 @@ fn split(packet: &[u8]) -> Option<Head> {
         coupled: coupled.into(),
         mapping,
     };
-    rest.is_empty().then_some(head)
+    let is_whole = rest.is_empty() || head.version > LAST_EXACT;
+    (is_whole && head.version <= LAST_READ).then_some(head)
 }

@@ -4,7 +4,7 @@
 use crate::head::{
     encode, Head, BAD_HEAD, BAD_MAPPING, CHANNELS, FAMILY, PLACES, SHORTEST, UNFIT_FIELDS, VERSION,
 };
-use crate::head_inputs::{head, head_with_table, index, with_table, without_table};
+use crate::head_inputs::{head, head_with_table, index, more_bytes, with_table, without_table};
 use crate::inputs::{change, Change};
 use crate::ogg::NO_ROOM;
 use crate::random::Random;
@@ -14,6 +14,9 @@ pub const LEGAL: Change<Head> = change("a legal header", &[0, NO_ROOM], |_, _| (
 
 /// What reading and writing answer to a wrong channel mapping.
 const WRONG: &[u32] = &[BAD_MAPPING, UNFIT_FIELDS];
+
+/// What comes of a whole header is up to its channel mapping.
+const WHOLE: &[u32] = &[0, BAD_MAPPING];
 
 /// What can come of other bytes.
 const ANY: &[u32] = &[0, BAD_HEAD, BAD_MAPPING];
@@ -102,11 +105,21 @@ pub const DAMAGES: &[Change<Vec<u8>>] = &[
         &[BAD_HEAD],
         |random, packet| packet[random.below(VERSION)] ^= 1 << random.below(8),
     ),
-    change("version 0", &[BAD_HEAD], |_, packet| packet[VERSION] = 0),
-    change("version 2", &[BAD_HEAD], |_, packet| packet[VERSION] = 2),
-    change("another version", &[BAD_HEAD], |random, packet| {
+    change("version 16", &[BAD_HEAD], |_, packet| packet[VERSION] = 16),
+    change("a version above 15", &[BAD_HEAD], |random, packet| {
+        packet[VERSION] = random.within(16..=255) as u8
+    }),
+    change("another version", ANY, |random, packet| {
         another_value(random, packet, VERSION)
     }),
+    change(
+        "the fields in a version that is read",
+        WHOLE,
+        |random, packet| {
+            packet.truncate(fields_length(packet));
+            packet[VERSION] = random.within(0..=15) as u8
+        },
+    ),
     change("another number of channels", ANY, |random, packet| {
         another_value(random, packet, CHANNELS)
     }),
@@ -118,25 +131,73 @@ pub const DAMAGES: &[Change<Vec<u8>>] = &[
         another_value(random, packet, place)
     }),
     change("cut anywhere", &[BAD_HEAD], |random, packet| {
-        packet.truncate(random.below(packet.len()))
+        packet.truncate(random.below(fields_length(packet)))
     }),
     change("one byte too few", &[BAD_HEAD], |_, packet| {
-        packet.truncate(packet.len() - 1)
+        packet.truncate(fields_length(packet) - 1)
     }),
-    change("one byte too many", &[BAD_HEAD], |random, packet| {
-        packet.push(random.byte())
+    change(
+        "one byte too many in version 0 or 1",
+        &[BAD_HEAD],
+        |random, packet| {
+            make_exact(random, packet);
+            packet.push(random.byte())
+        },
+    ),
+    change(
+        "one byte more in version 2 to 15",
+        WHOLE,
+        |random, packet| {
+            make_extensible(random, packet);
+            packet.push(random.byte())
+        },
+    ),
+    change(
+        "bytes too many in version 0 or 1",
+        &[BAD_HEAD],
+        |random, packet| {
+            make_exact(random, packet);
+            packet.extend(more_bytes(random))
+        },
+    ),
+    change("bytes more in version 2 to 15", WHOLE, |random, packet| {
+        make_extensible(random, packet);
+        packet.extend(more_bytes(random))
     }),
-    change("several bytes too many", &[BAD_HEAD], |random, packet| {
-        let more = random.within(2..=300);
-        packet.extend(random.bytes(more))
-    }),
-    change("two headers joined", &[BAD_HEAD], |random, packet| {
-        packet.extend(encode(&head(random)))
-    }),
-    change("family 0 with a table", &[BAD_HEAD], |random, packet| {
-        *packet = encode(&head_with_table(random));
-        packet[FAMILY] = 0
-    }),
+    change(
+        "two headers joined in version 0 or 1",
+        &[BAD_HEAD],
+        |random, packet| {
+            make_exact(random, packet);
+            packet.extend(encode(&head(random)))
+        },
+    ),
+    change(
+        "two headers joined in version 2 to 15",
+        WHOLE,
+        |random, packet| {
+            make_extensible(random, packet);
+            packet.extend(encode(&head(random)))
+        },
+    ),
+    change(
+        "family 0 with a table in version 0 or 1",
+        &[BAD_HEAD],
+        |random, packet| {
+            *packet = encode(&head_with_table(random));
+            make_exact(random, packet);
+            packet[FAMILY] = 0
+        },
+    ),
+    change(
+        "family 0 with a table in version 2 to 15",
+        WHOLE,
+        |random, packet| {
+            *packet = encode(&head_with_table(random));
+            make_extensible(random, packet);
+            packet[FAMILY] = 0
+        },
+    ),
     change(
         "another family without a table",
         &[BAD_HEAD],
@@ -150,7 +211,7 @@ pub const DAMAGES: &[Change<Vec<u8>>] = &[
         *packet = random.bytes(length)
     }),
     change(
-        "random bytes after the signature and version 1",
+        "random bytes after the signature and the version",
         ANY,
         random_header,
     ),
@@ -184,20 +245,41 @@ fn another_value(random: &mut Random, packet: &mut [u8], place: usize) {
     packet[place] ^= random.within(1..=255) as u8;
 }
 
+/// How many bytes the fields take that the start of a header tells of.
+fn fields_length(packet: &[u8]) -> usize {
+    match packet[FAMILY] {
+        0 => SHORTEST,
+        _ => SHORTEST + 2 + usize::from(packet[CHANNELS]),
+    }
+}
+
+/// Leaves the fields alone, in a version that has no bytes after them.
+fn make_exact(random: &mut Random, packet: &mut Vec<u8>) {
+    packet.truncate(fields_length(packet));
+    packet[VERSION] = random.within(0..=1) as u8;
+}
+
+/// Leaves the fields alone, in a version that may have bytes after them.
+fn make_extensible(random: &mut Random, packet: &mut Vec<u8>) {
+    packet.truncate(fields_length(packet));
+    packet[VERSION] = random.within(2..=15) as u8;
+}
+
 /// Random bytes but for the signature, the version and often the family; the length is mostly the
 /// right one, and the indices are often of a few channels.
 fn random_header(random: &mut Random, packet: &mut Vec<u8>) {
     *packet = random.bytes(SHORTEST + 2 + PLACES);
-    packet[..=VERSION].copy_from_slice(b"OpusHead\x01");
+    packet[..VERSION].copy_from_slice(b"OpusHead");
+    packet[VERSION] = random.within(0..=17) as u8;
     packet[FAMILY] = *random.pick(&[0, 1, 1, 255, 255, packet[FAMILY]]);
     packet[CHANNELS] >>= random.below(8);
     if random.one_in(2) {
         packet[SHORTEST..][..2].copy_from_slice(&[4, 2]);
         packet[SHORTEST + 2..].fill_with(|| index(random, 6));
     }
-    let length = match packet[FAMILY] {
-        0 => SHORTEST,
-        _ => SHORTEST + 2 + usize::from(packet[CHANNELS]),
-    };
-    packet.truncate(length - usize::from(random.one_in(4)));
+    match random.below(8) {
+        0..=1 => packet.truncate(fields_length(packet) - 1),
+        2 => packet.truncate(fields_length(packet) + 1),
+        _ => packet.truncate(fields_length(packet)),
+    }
 }

@@ -1,5 +1,5 @@
-//! The ways to ask the writer of identification headers for what reading never gives, whatever the
-//! channel mapping.
+//! The ways to ask the writer of identification headers for what it does not write, whatever the
+//! channel mapping: what reading never gives, and versions that are only read.
 
 use crate::head::{Head, PLACES, UNFIT_FIELDS, WIDTHS};
 use crate::head_inputs::{head_of_family_0, head_with_table, without_table};
@@ -8,11 +8,21 @@ use crate::random::Random;
 
 const UNFIT: &[u32] = &[UNFIT_FIELDS];
 
-pub const DEMANDS: &[Change<Head>] = &[
+/// The ways to ask the writer for a version that is read and not written.
+pub const READ_VERSIONS: &[Change<Head>] = &[
     change("version 0", UNFIT, |_, head| head.version = 0),
     change("version 2", UNFIT, |_, head| head.version = 2),
-    change("another version", UNFIT, |random, head| {
-        head.version = random.within(2..=255) as u64
+    change("version 15", UNFIT, |_, head| head.version = 15),
+    change("a version from 2 to 15", UNFIT, |random, head| {
+        head.version = random.within(2..=15) as u64
+    }),
+];
+
+/// The ways to ask for what neither the writer nor opening part way takes.
+pub const DEMANDS: &[Change<Head>] = &[
+    change("version 16", UNFIT, |_, head| head.version = 16),
+    change("a version above 15", UNFIT, |random, head| {
+        head.version = random.within(16..=255) as u64
     }),
     change("the least bit above a field set", UNFIT, |random, head| {
         set_bit(random, head, |_, width| width)

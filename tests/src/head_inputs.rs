@@ -1,6 +1,7 @@
-//! Legal identification headers of all shapes for the random runs, and a fixed set of them.
+//! Legal identification headers of all shapes for the random runs, and a fixed set of them. They are
+//! of the version that is written, unless another is asked for.
 
-use crate::head::{Head, PLACES, SILENCE};
+use crate::head::{encode, Head, LAST_EXACT, PLACES, SILENCE, WRITTEN};
 use crate::random::Random;
 
 /// Stream counts and coupled counts that are legal, at the ends of what they can be.
@@ -23,6 +24,44 @@ pub fn head(random: &mut Random) -> Head {
         head_of_family_0(random)
     } else {
         head_with_table(random)
+    }
+}
+
+/// A legal header of any family and of any version that is read.
+pub fn head_to_read(random: &mut Random) -> Head {
+    Head {
+        version: version(random),
+        ..head(random)
+    }
+}
+
+/// Any version that is read, the one that is written more often.
+pub fn version(random: &mut Random) -> u64 {
+    match random.one_in(4) {
+        true => WRITTEN,
+        false => random.within(0..=15) as u64,
+    }
+}
+
+/// The bytes of a header to be read: where its version may have more than the fields, often some.
+pub fn packet(random: &mut Random, head: &Head) -> Vec<u8> {
+    let mut bytes = encode(head);
+    if head.version > LAST_EXACT && !random.one_in(3) {
+        bytes.extend(more_bytes(random));
+    }
+    bytes
+}
+
+/// Bytes that may follow the fields of a header.
+pub fn more_bytes(random: &mut Random) -> Vec<u8> {
+    let count = match random.below(4) {
+        0 => 1,
+        1 => random.within(2..=8),
+        _ => random.within(1..=300),
+    };
+    match random.one_in(8) {
+        true => vec![0; count],
+        false => random.bytes(count),
     }
 }
 
@@ -122,7 +161,7 @@ fn counts(random: &mut Random) -> (usize, usize) {
 /// A header of no channels, with any values of the fields that the channel mapping does not need.
 fn blank(random: &mut Random) -> Head {
     Head {
-        version: 1,
+        version: WRITTEN,
         channels: 0,
         pre_skip: field(random, 16),
         rate: field(random, 32),

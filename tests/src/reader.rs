@@ -69,7 +69,7 @@ impl Reader {
 
     /// A reader opened part way, or the refusal's number.
     pub fn opened(head: &Head) -> Result<Reader, u32> {
-        if !head.is_legal() {
+        if !head.is_readable() {
             return Err(UNFIT_FIELDS);
         }
         Ok(Reader {

@@ -2,7 +2,8 @@
 //! and granule positions for them.
 
 use crate::feeding::{CONTINUED, FIRST, LAST, MOST_GRANULE, NO_GRANULE};
-use crate::head::{self, Head};
+use crate::head::Head;
+use crate::head_inputs::packet;
 use crate::ogg::Page;
 use crate::pieces::lacing;
 use crate::random::Random;
@@ -39,7 +40,7 @@ pub struct Recording {
 pub fn recording(random: &mut Random) -> Recording {
     let head = head_of_stream(random);
     let first = [Sound {
-        bytes: head::encode(&head),
+        bytes: packet(random, &head),
         samples: 0,
     }];
     let mut pages = lay(random, &first, &[255], false);

@@ -2,7 +2,7 @@
 //! number of streams.
 
 use crate::head::Head;
-use crate::head_inputs::head;
+use crate::head_inputs::head_to_read;
 use crate::opus::{Code, Form, Packet, Padding, LARGEST_FRAME};
 use crate::packet_inputs::{audio_of, config};
 use crate::random::Random;
@@ -19,11 +19,11 @@ pub struct Sound {
     pub samples: u64,
 }
 
-/// A legal header, mostly of few streams and of a usual pre-skip.
+/// A legal header of any version that is read, mostly of few streams and of a usual pre-skip.
 pub fn head_of_stream(random: &mut Random) -> Head {
     let most_streams = if random.one_in(12) { 255 } else { 6 };
     let mut head = loop {
-        let head = head(random);
+        let head = head_to_read(random);
         if head.streams <= most_streams {
             break head;
         }

@@ -97,6 +97,27 @@ impl Aims {
     }
 }
 
+/// Counts of the versions of the identification headers that a run accepted.
+#[derive(Default)]
+pub struct Versions([usize; 16]);
+
+impl Versions {
+    pub fn add(&mut self, version: u64) {
+        self.0[version as usize] += 1;
+    }
+
+    /// Prints the counts. Fails unless each version from `first` on came often enough.
+    pub fn finish(&self, run: &str, first: usize, least: usize) {
+        let (counts, total) = (self.0, self.0.iter().sum::<usize>());
+        say(&format!("{run}: {total}, of versions 0 to 15: {counts:?}"));
+        let is_enough = |&count: &usize| count >= least;
+        assert!(
+            counts[first..].iter().all(is_enough),
+            "{run}: too few of a version"
+        );
+    }
+}
+
 /// Prints a line that shows in a passing run too: the test harness holds back what `eprintln!`
 /// prints.
 pub fn say(line: &str) {

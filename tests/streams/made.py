@@ -6,8 +6,8 @@ from pages import CONTINUED, FIRST, LAST, NO_GRANULE, Page, lacing_of, write_pag
 SERIAL = 0x31415926
 
 
-def head(channels=2, family=0, table=b''):
-    return b'OpusHead' + struct.pack('<BBHIhB', 1, channels, 312, 48000, 0, family) + table
+def head(channels=2, family=0, table=b'', version=1):
+    return b'OpusHead' + struct.pack('<BBHIhB', version, channels, 312, 48000, 0, family) + table
 
 
 def tags(*comments):
@@ -27,13 +27,13 @@ def whole(flags, granule, *packets):
     return flags, granule, b''.join(map(lacing_of, packets)), b''.join(packets)
 
 
-def short_stream(serial=SERIAL):
+def short_stream(serial=SERIAL, first=head()):
     """Under 2 KB: a comment packet over two pages, an audio packet over three, an empty page, a hole, and a trim."""
     comment = tags(b'TITLE=drip', b'LONG=' + bytes(b'abcdefghij' * 27))
     long = bytes([0xf8]) + bytes(range(256)) * 2 + bytes(27)            # 540 bytes, 960 samples
     two, silk, many = b'\x01ab', b'\x08abc', b'\xe3\x05' + bytes(10)    # 960, 960 and 600 samples
     return stream([
-        whole(FIRST, 0, head()),
+        whole(FIRST, 0, first),
         (0, NO_GRANULE, b'\xff', comment[:255]),
         whole(CONTINUED, 0, comment[255:]),
         whole(0, 2520, two, silk, many),
@@ -51,6 +51,28 @@ def long_stream(packets):
         count = min(255, packets - at)
         pages.append((0, 120 * (at + count), b'\x01' * count, b'\xe0' * count))
     return stream(pages)
+
+
+def version_streams():
+    """(version, bytes, bytes in version 1) of the short stream with headers that are read. From version 2 on bytes may
+    follow the fields; with 236 the header of family 0 is 255 bytes long."""
+    for fields in (2,), (1, 255, bytes([1, 0, 255])):
+        same = short_stream(first=head(*fields))
+        for version, sizes in (0, [0]), (2, [0, 1, 236]), (15, [0, 10, 3000]):
+            for size in sizes:
+                first = head(*fields, version=version) + b'\xff' * size
+                yield version, short_stream(first=first), same
+
+
+def wrong_version_streams():
+    """(name, bytes) of the short stream with headers that are refused for their version, or for their length in it."""
+    for version, more in (0, 1), (1, 1), (16, 0), (16, 10), (255, 0), (0, -1), (2, -1), (15, -1):
+        first = head(version=version).ljust(19 + more, b'\0')[:19 + more]
+        yield f'version {version}, {len(first)} bytes', short_stream(first=first)
+    first, second = head(version=2), whole(0, 0, tags())
+    yield 'version 2 and another packet', stream([whole(FIRST, 0, first, b'more'), second])
+    yield 'version 2 over two pages', stream([(FIRST, NO_GRANULE, b'\xff', first.ljust(255, b'\0')),
+                                              whole(CONTINUED, 0, b'more'), second])
 
 
 def wrong_streams():

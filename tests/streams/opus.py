@@ -84,11 +84,13 @@ def packet_samples(data, streams):
 
 
 def read_head(packet):
-    refuse(12, len(packet) < 19 or packet[:9] != b'OpusHead\1')
+    """The identification header: of a version up to 15, and from 2 on bytes may follow, which nothing reads."""
+    refuse(12, len(packet) < 19 or packet[:8] != b'OpusHead')
     version, channels, pre_skip, rate, gain, family = struct.unpack('<BBHIhB', packet[8:19])
-    refuse(12, len(packet) != (21 + channels if family else 19))
+    size = 21 + channels if family else 19
+    refuse(12, version > 15 or len(packet) < size or version < 2 and len(packet) > size)
     refuse(13, not 1 <= channels <= {0: 2, 1: 8, 255: 255}.get(family, 0))
-    streams, coupled, *mapping = packet[19:] if family else (1, channels - 1, *range(channels))
+    streams, coupled, *mapping = packet[19:size] if family else (1, channels - 1, *range(channels))
     refuse(13, streams < 1 or coupled > streams or streams + coupled > 255)
     refuse(13, any(streams + coupled <= index < 255 for index in mapping))
     return Head(version, channels, pre_skip, rate, gain, family, streams, coupled, bytes(mapping))

@@ -13,10 +13,11 @@ use embulgri_tests::random::{times, Random};
 use embulgri_tests::reader::Phase;
 use embulgri_tests::recording::{recording, Written};
 use embulgri_tests::stamps::{Entry, NO_POSITION};
-use embulgri_tests::tally::Tally;
+use embulgri_tests::tally::{Tally, Versions};
 
 const RECORDINGS: usize = 2_000;
 const LEAST_OPENED: usize = 10_000;
+const LEAST_OF_EACH_VERSION: usize = 20;
 
 /// An audio page that the full reader accepted, and what it listed there.
 struct Accepted {
@@ -153,12 +154,14 @@ fn feed_refused(random: &mut Random, feeder: &mut Feeder, page: &Page) {
 fn readers_opened_at_every_page_list_what_the_full_reader_listed() {
     let mut random = Random::of_run(93);
     let mut tally = Tally::default();
+    let mut versions = Versions::default();
     for _ in 0..RECORDINGS * times() {
         let recording = recording(&mut random);
         let (head, stream) = accepted(&mut random, &recording.pages);
         let pages: Vec<Page> = stream.iter().map(|a| a.page.clone()).collect();
         let packets = packets(&pages);
         check_full(&head, &stream, &packets);
+        versions.add(head.version);
         for first in 0..stream.len() {
             let answers = check_opened(&mut random, &head, &stream, &packets, first);
             answers.into_iter().for_each(|answer| tally.add(answer));
@@ -169,4 +172,5 @@ fn readers_opened_at_every_page_list_what_the_full_reader_listed() {
         LEAST_OPENED,
         &[NO_POSITION],
     );
+    versions.finish("recordings opened", 0, LEAST_OF_EACH_VERSION);
 }

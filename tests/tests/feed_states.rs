@@ -4,10 +4,10 @@
 use embulgri_tests::feed_calls::Feeder;
 use embulgri_tests::feed_choice::room;
 use embulgri_tests::feeding::{CONTINUED, FIRST, MOST_GRANULE};
-use embulgri_tests::head::UNFIT_FIELDS;
+use embulgri_tests::head::{UNFIT_FIELDS, WRITTEN};
 use embulgri_tests::head_damages::{LEGAL, WRONG_MAPPINGS};
 use embulgri_tests::head_demands::DEMANDS;
-use embulgri_tests::head_inputs::head;
+use embulgri_tests::head_inputs::{head, version};
 use embulgri_tests::inputs::{change, Change};
 use embulgri_tests::ogg::{self, Page};
 use embulgri_tests::random::{times, Random};
@@ -17,8 +17,8 @@ use embulgri_tests::tags::LONGEST;
 use embulgri_tests::tally::Tally;
 
 const RECORDINGS: usize = 4_000;
-const OPENINGS: usize = 60_000;
-const LEAST_OPENINGS: usize = 50_000;
+const OPENINGS: usize = 120_000;
+const LEAST_OPENINGS: usize = 100_000;
 
 type Numbers = [u64; NUMBERS];
 
@@ -143,6 +143,7 @@ fn any_numbers_are_the_reader_that_they_stand_for() {
 fn opening_takes_the_headers_that_reading_gives_and_no_others() {
     let mut random = Random::of_run(95);
     let mut tally = Tally::default();
+    let mut feeder = Feeder::started();
     for number in 0..OPENINGS {
         let mut head = head(&mut random);
         let demand = match random.below(4) {
@@ -151,7 +152,10 @@ fn opening_takes_the_headers_that_reading_gives_and_no_others() {
             _ => &LEGAL,
         };
         (demand.apply)(&mut random, &mut head);
-        let mut feeder = Feeder::of([random.number(); NUMBERS]);
+        if head.version == WRITTEN {
+            head.version = version(&mut random);
+        }
+        feeder.set([random.number(); NUMBERS]);
         let answer = feeder.open(&head, format!("header {number}: {}", demand.name));
         assert!(
             demand.answers.contains(&answer),

@@ -4,24 +4,26 @@
 use embulgri_tests::calls::{check_head, found_head};
 use embulgri_tests::damages::UNDAMAGED;
 use embulgri_tests::demands::ROOMS;
-use embulgri_tests::head::{encode, BAD_HEAD, BAD_MAPPING, UNFIT_FIELDS};
+use embulgri_tests::head::{encode, BAD_HEAD, BAD_MAPPING, UNFIT_FIELDS, VERSION, WRITTEN};
 use embulgri_tests::head_damages::{DAMAGES, LEGAL, WRONG_MAPPINGS};
-use embulgri_tests::head_demands::DEMANDS;
-use embulgri_tests::head_inputs::head;
+use embulgri_tests::head_demands::{DEMANDS, READ_VERSIONS};
+use embulgri_tests::head_inputs::{head, head_to_read, more_bytes, packet, version};
 use embulgri_tests::inputs::shifted;
 use embulgri_tests::ogg::NO_ROOM;
 use embulgri_tests::random::Random;
-use embulgri_tests::tally::Tally;
+use embulgri_tests::tally::{Tally, Versions};
 use embulgri_tests::writing::{assert_same_bytes, check_writing, written, Request, BEFORE};
 
 const CASES: usize = 240_000;
 const LEAST_CASES: usize = 200_000;
 const ROUND_TRIPS: usize = 50_000;
+const LEAST_OF_EACH_VERSION: usize = 1_000;
 
 #[test]
 fn reading_gives_the_number_the_fields_and_the_mapping_that_the_rules_say() {
     let mut random = Random::of_run(51);
     let mut tally = Tally::default();
+    let mut versions = Versions::default();
     for number in 0..CASES {
         let mut head = head(&mut random);
         let (mapping, damage) = match random.below(8) {
@@ -31,11 +33,16 @@ fn reading_gives_the_number_the_fields_and_the_mapping_that_the_rules_say() {
             _ => (random.pick(WRONG_MAPPINGS), random.pick(DAMAGES)),
         };
         (mapping.apply)(&mut random, &mut head);
-        let mut bytes = encode(&head);
+        head.version = version(&mut random);
+        let mut bytes = packet(&mut random, &head);
         (damage.apply)(&mut random, &mut bytes);
         let (buffer, start) = shifted(&mut random, &bytes);
         let case = format!("input {number}: {}, {}", mapping.name, damage.name);
-        let answer = check_head(&buffer[start..], &case).err().unwrap_or(0);
+        let told = check_head(&buffer[start..], &case);
+        if let Ok(head) = &told {
+            versions.add(head.version);
+        }
+        let answer = told.err().unwrap_or(0);
         let answers = match damage.name == UNDAMAGED.name {
             true => mapping.answers,
             false => damage.answers,
@@ -44,6 +51,7 @@ fn reading_gives_the_number_the_fields_and_the_mapping_that_the_rules_say() {
         tally.add(answer);
     }
     tally.finish("headers read", LEAST_CASES, &[BAD_HEAD, BAD_MAPPING]);
+    versions.finish("headers accepted", 0, LEAST_OF_EACH_VERSION);
 }
 
 #[test]
@@ -52,9 +60,10 @@ fn writing_gives_the_number_and_the_bytes_that_the_rules_say() {
     let mut tally = Tally::default();
     for number in 0..CASES {
         let mut head = head(&mut random);
-        let demand = match random.below(8) {
-            0 => random.pick(WRONG_MAPPINGS),
-            1 => random.pick(DEMANDS),
+        let demand = match random.below(16) {
+            0..=1 => random.pick(WRONG_MAPPINGS),
+            2..=3 => random.pick(DEMANDS),
+            4 => random.pick(READ_VERSIONS),
             _ => &LEGAL,
         };
         (demand.apply)(&mut random, &mut head);
@@ -85,6 +94,46 @@ fn reading_what_was_written_gives_the_same_fields_and_mapping() {
         let head = head(&mut random);
         assert_eq!(found_head(&written(&head)), head);
     }
+}
+
+#[test]
+fn a_header_of_any_version_is_written_as_version_1_and_read_back() {
+    let mut random = Random::of_run(55);
+    let mut versions = Versions::default();
+    for number in 0..ROUND_TRIPS {
+        let head = head_to_read(&mut random);
+        let bytes = packet(&mut random, &head);
+        let mut found = found_head(&bytes);
+        assert_eq!(found, head);
+        versions.add(found.version);
+        found.version = WRITTEN;
+        let again = written(&found);
+        let mut same = bytes[..again.len()].to_vec();
+        same[VERSION] = 1;
+        assert_same_bytes(&again, &same, format_args!("header {number}"));
+        assert_eq!(found_head(&again), found);
+    }
+    versions.finish("headers written as version 1", 0, LEAST_OF_EACH_VERSION);
+}
+
+#[test]
+fn headers_that_differ_in_the_bytes_after_the_fields_are_read_alike() {
+    let mut random = Random::of_run(56);
+    let mut versions = Versions::default();
+    for _ in 0..ROUND_TRIPS {
+        let mut head = head(&mut random);
+        head.version = random.within(2..=15) as u64;
+        let one = [encode(&head), more_bytes(&mut random)].concat();
+        let other = [encode(&head), more_bytes(&mut random)].concat();
+        assert_eq!(found_head(&one), head);
+        assert_eq!(found_head(&other), head);
+        versions.add(head.version);
+    }
+    versions.finish(
+        "headers with other bytes after the fields",
+        2,
+        LEAST_OF_EACH_VERSION,
+    );
 }
 
 #[test]

@@ -151,7 +151,7 @@ fn no_field_is_wider_than_in_the_header() {
             for value in ends {
                 let head = with_field(&head, place, value);
                 // Pre-skip, input rate and output gain take anything; the rest is up to the rules.
-                let legal = (2..=4).contains(&place) || head.is_legal();
+                let legal = (2..=4).contains(&place) || head.is_writable();
                 write(&head, &mut tally, legal, "a field at its ends");
             }
         }

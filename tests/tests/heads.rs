@@ -3,7 +3,7 @@
 
 use embulgri_tests::calls::{check_head, found_head};
 use embulgri_tests::head::{
-    encode, Head, BAD_HEAD, BAD_MAPPING, CHANNELS, FAMILY, PLACES, SHORTEST, WIDTHS,
+    encode, Head, BAD_HEAD, BAD_MAPPING, CHANNELS, FAMILY, PLACES, SHORTEST, VERSION, WIDTHS,
 };
 use embulgri_tests::head_inputs::{legal_set, with_table, without_table, COUNTS};
 use embulgri_tests::random::Random;
@@ -64,15 +64,36 @@ fn known_headers_are_read_and_written() {
 }
 
 #[test]
+fn known_headers_of_other_versions_are_read() {
+    let plain: [(&[u8], u64); 4] = [
+        (b"OpusHead\x00\x02\x38\x01\x80\xbb\0\0\0\0\0", 0),
+        (b"OpusHead\x02\x02\x38\x01\x80\xbb\0\0\0\0\0", 2),
+        (b"OpusHead\x02\x02\x38\x01\x80\xbb\0\0\0\0\0\x07", 2),
+        (b"OpusHead\x0f\x02\x38\x01\x80\xbb\0\0\0\0\0more", 15),
+    ];
+    for (bytes, version) in plain {
+        let head = known_head([version, 2, 312, 48_000, 0, 0, 1, 1], &[0, 1]);
+        assert_eq!(check_head(bytes, "known"), Ok(head));
+    }
+    let long = b"OpusHead\x03\x03\0\0\0\0\0\0\0\0\x01\x02\x01\x00\x02\x01\x09\x09";
+    let head = known_head([3, 3, 0, 0, 0, 1, 2, 1], &[0, 2, 1]);
+    assert_eq!(check_head(long, "known"), Ok(head));
+}
+
+#[test]
 fn known_wrong_headers_have_the_known_answers() {
-    let known: [(&[u8], u32); 13] = [
+    let known: [(&[u8], u32); 17] = [
         (b"", BAD_HEAD),
         (b"OpusTags\x01\x02\x38\x01\x80\xbb\0\0\0\0\0", BAD_HEAD),
-        (b"OpusHead\x00\x02\x38\x01\x80\xbb\0\0\0\0\0", BAD_HEAD),
-        (b"OpusHead\x02\x02\x38\x01\x80\xbb\0\0\0\0\0", BAD_HEAD),
+        (b"OpusHead\x10\x02\x38\x01\x80\xbb\0\0\0\0\0", BAD_HEAD),
+        (b"OpusHead\x11\x02\x38\x01\x80\xbb\0\0\0\0\0", BAD_HEAD),
+        (b"OpusHead\x00\x02\x38\x01\x80\xbb\0\0\0\0\0\0", BAD_HEAD),
         (b"OpusHead\x01\x02\x38\x01\x80\xbb\0\0\0\0\0\0", BAD_HEAD),
+        (b"OpusHead\x02\x02\x38\x01\x80\xbb\0\0\0\0", BAD_HEAD),
+        (b"OpusHead\x0f\x01\0\0\0\0\0\0\0\0\x01\x01\x00", BAD_HEAD),
         (b"OpusHead\x01\x02\x38\x01\x80\xbb\0\0\0\0\x01", BAD_HEAD),
         (b"OpusHead\x01\x03\x38\x01\x80\xbb\0\0\0\0\0", BAD_MAPPING),
+        (b"OpusHead\x02\x03\x38\x01\x80\xbb\0\0\0\0\0\0", BAD_MAPPING),
         (b"OpusHead\x01\x00\0\0\0\0\0\0\0\0\xff\x01\x00", BAD_MAPPING),
         (b"OpusHead\x01\x01\0\0\0\0\0\0\0\0\x01\0\0\xff", BAD_MAPPING),
         (b"OpusHead\x01\x01\0\0\0\0\0\0\0\0\x02\x01\0\0", BAD_MAPPING),
@@ -185,17 +206,24 @@ fn fields_are_read_at_the_ends_of_their_widths() {
 }
 
 #[test]
-fn headers_cut_short_at_every_place_or_one_byte_too_long_are_refused() {
-    for head in legal_set(&mut Random::of_run(33)) {
-        let bytes = encode(&head);
-        assert_eq!(check_head(&bytes, "whole"), Ok(head));
-        for length in 0..bytes.len() {
-            // What was cut off lies after the bytes that are lent.
-            assert_eq!(check_head(&bytes[..length], "cut"), Err(BAD_HEAD));
-        }
-        for more in 0..=255 {
-            let long = [&bytes[..], &[more]].concat();
-            assert_eq!(check_head(&long, "a byte too many"), Err(BAD_HEAD));
+fn headers_cut_short_at_every_place_are_refused_and_so_are_old_ones_of_a_byte_too_many() {
+    for mut head in legal_set(&mut Random::of_run(33)) {
+        for version in 0..=15 {
+            head.version = version;
+            let bytes = encode(&head);
+            assert_eq!(check_head(&bytes, "whole").as_ref(), Ok(&head));
+            for length in 0..bytes.len() {
+                // What was cut off lies after the bytes that are lent.
+                assert_eq!(check_head(&bytes[..length], "cut"), Err(BAD_HEAD));
+            }
+            let told = match version {
+                0 | 1 => Err(BAD_HEAD),
+                _ => Ok(head.clone()),
+            };
+            for more in 0..=255 {
+                let long = [&bytes[..], &[more]].concat();
+                assert_eq!(check_head(&long, "a byte more"), told);
+            }
         }
     }
 }
@@ -211,6 +239,7 @@ fn headers_with_any_one_byte_changed_are_read_as_the_rules_say() {
                 bytes[place] = other;
                 let answer = read(&bytes, &mut tally, "a byte changed");
                 match place {
+                    VERSION if other < 16 => assert_eq!(answer, 0, "version {other}"),
                     0..CHANNELS => assert_eq!(answer, BAD_HEAD, "byte {place}"),
                     CHANNELS if head.family != 0 => assert_eq!(answer, BAD_HEAD),
                     CHANNELS | FAMILY => (),

@@ -33,8 +33,8 @@ pub fn start_core() -> Core
     }
 }
 
-// The core and tally of a reader opened part way, in a stream with this header. 23: `head_writer::write_head` would refuse
-// the fields by 23 (RULES.md, 9).
+// The core and tally of a reader opened part way, in a stream with this header. 23: no reading gives
+// these fields, by `head_fields::right_head` (RULES.md, 9).
 // Example: right fields with 1 stream and pre-skip 312 give a core with these two, and 0 samples to skip.
 pub fn open_core(head: Head) -> CoreOpened
     ensures { λ r. ⌜ toldOpened r ≡ openPartWay head ⌝ }

@@ -12,7 +12,7 @@ use Rattle.octets.specs.Octets.{Bytes, begins}
 use Rattle.octets.proofs.Parts.{take-min}
 use Rattle.head_fields.specs.declared.Head.{Head}
 use Rattle.head_fields.specs.Right.{plainIndices}
-use Rattle.head_fields.specs.Right.{mostChannels, allowedChannels, rightIndices, allZero, rightStreams, rightPlain, rightMapping, rightHead}
+use Rattle.head_fields.specs.Right.{mostChannels, allowedChannels, rightIndices, allZero, rightStreams, rightPlain, rightMapping, rightFields}
 
 -- how many channels a family allows
 pub most-other : {family : ℕ} → (family ≡ 0 → ⊥) → (family ≡ 1 → ⊥) → (family ≡ 255 → ⊥) → mostChannels family ≡ 0
@@ -109,20 +109,16 @@ module _ (h : Head) where
   unfolding rightPlain
   start-decides f s c e = rw (e, take-min (h .channels) plainIndices, eq-eqb (h .family) 0 f, eq-eqb (h .streams) 1 s, eq-eqb (h .coupled) (h .channels - 1) c)
 
-  -- all fields
-  pub other-version : (h .version ≡ 1 → ⊥) → rightHead h ≡ false
-  unfolding rightHead
-  other-version v = rw (ne-eqb (h .version) 1 v)
+  -- all fields but the version
+  pub wrong-mapping : rightMapping h ≡ false → rightFields h ≡ false
+  unfolding rightFields
+  wrong-mapping m = rw m
 
-  pub wrong-mapping : h .version ≡ 1 → rightMapping h ≡ false → rightHead h ≡ false
-  unfolding rightHead
-  wrong-mapping v m = rw (eq-eqb (h .version) 1 v, m)
+  pub wrong-plain : rightMapping h ≡ true → rightPlain h ≡ false → rightFields h ≡ false
+  unfolding rightFields
+  wrong-plain m p = rw (m, p)
 
-  pub wrong-plain : h .version ≡ 1 → rightMapping h ≡ true → rightPlain h ≡ false → rightHead h ≡ false
-  unfolding rightHead
-  wrong-plain v m p = rw (eq-eqb (h .version) 1 v, m, p)
-
-  pub unused-decide : {n : ℕ} → h .version ≡ 1 → rightMapping h ≡ true → rightPlain h ≡ true → n ≡ h .channels → length (h .mapping) ≡ 255
-      → rightHead h ≡ allZero (take (255 - n) (drop n (h .mapping)))
-  unfolding rightHead
-  unused-decide v m p e l = rw (e, last-part (h .mapping) (h .channels) 255 l, eq-eqb (h .version) 1 v, m, p)
+  pub unused-decide : {n : ℕ} → rightMapping h ≡ true → rightPlain h ≡ true → n ≡ h .channels → length (h .mapping) ≡ 255
+      → rightFields h ≡ allZero (take (255 - n) (drop n (h .mapping)))
+  unfolding rightFields
+  unused-decide m p e l = rw (e, last-part (h .mapping) (h .channels) 255 l, m, p)

@@ -1,5 +1,5 @@
 -- When the fields of an identification header are right (RFC 7845, 5.1 and 5.1.1; RULES.md, refusals 12, 13 and 23). The
--- reader, the writer and opening part way share this. Assumes nothing.
+-- reader, the writer and opening part way share this, but for the versions that they take. Assumes nothing.
 use Prim.Native.Nat.{ℕ, _+_, _-_}
 use mathlib.Core.Bool.{Bool, true, false, _&&_, _||_}
 use mathlib.Core.List.{[], _∷_}
@@ -18,9 +18,24 @@ plainIndices = 0 ∷ 1 ∷ []
 abbrev pub hasTable : ℕ → Bool
 hasTable family = pick (eqb family 0) false true
 
--- which versions there are
-abbrev pub rightVersion : ℕ → Bool
-rightVersion v = eqb v 1
+-- which versions are read: those whose upper four bits are zero
+abbrev pub readableVersion : ℕ → Bool
+readableVersion v = ltb v 16
+
+-- the version that is written
+abbrev pub writtenVersion : ℕ
+writtenVersion = 1
+
+abbrev pub writableVersion : ℕ → Bool
+writableVersion v = eqb v writtenVersion
+
+-- from which version on bytes may follow the fields
+abbrev pub mayExtend : ℕ → Bool
+mayExtend v = leb 2 v
+
+-- a header of n bytes has the length of its fields, or more where bytes may follow them
+unfoldable pub rightLength : ℕ → ℕ → ℕ → Bool
+rightLength version fields n = pick (mayExtend version) (leb fields n) (eqb n fields)
 
 -- how long the table is
 abbrev pub tableLength : ℕ → ℕ → ℕ
@@ -67,6 +82,14 @@ rightMapping h =
     allowedChannels (h .family) (h .channels)
     && (rightStreams h && rightIndices (h .coupled + h .streams) (usedPlaces h))
 
--- fields that a reading could have given (23)
+-- all but the version is right
+unfoldable pub rightFields : Head → Bool
+rightFields h = rightMapping h && (rightPlain h && allZero (unusedPlaces h))
+
+-- fields that a reading could have given (23 of opening part way)
 unfoldable pub rightHead : Head → Bool
-rightHead h = rightVersion (h .version) && (rightMapping h && (rightPlain h && allZero (unusedPlaces h)))
+rightHead h = readableVersion (h .version) && rightFields h
+
+-- fields that the writer takes (23 of writing)
+unfoldable pub writableHead : Head → Bool
+writableHead h = writableVersion (h .version) && rightFields h

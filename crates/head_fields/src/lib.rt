@@ -1,16 +1,14 @@
 // The fields of an identification header (RFC 7845, 5.1), and when they are right.
 ghost use mathlib.Core.Path.{_≡_};
 ghost use Rattle.head_fields.specs.Right.{allowedChannels, rightStreams, rightIndices, allZero};
-ghost use Rattle.head_fields.specs.Right.{rightPlain, rightMapping, rightHead};
+ghost use Rattle.head_fields.specs.Right.{readableVersion, writableVersion, rightLength};
+ghost use Rattle.head_fields.specs.Right.{rightPlain, rightMapping, rightFields, rightHead, writableHead};
 ghost use Rattle.head_fields.specs.Layout.{headLength};
 
 pub mod place;
 
 // What a header begins with.
 pub const SIGNATURE: [u8; 8] = *b"OpusHead";
-
-// The version that is read and written.
-pub const VERSION: u8 = 1;
 
 // How many bytes come before the table.
 pub const START_LENGTH: usize = 19;
@@ -26,6 +24,33 @@ pub struct Head {
     pub streams: u8,
     pub coupled: u8,
     pub mapping: [u8; 255],
+}
+
+// Whether a header of this version is read: its upper four bits are zero (RULES.md, 4; RFC 7845, 5.1).
+// Example: `readable_version(15)` is true, and `readable_version(16)` is false.
+pub fn readable_version(version: u8) -> bool
+    ensures { λ r. ⌜ r ≡ readableVersion version ⌝ }
+{
+    version < 16
+}
+
+// Whether a header of this version is written (RULES.md, 4): version 1 alone.
+// Example: `writable_version(1)` is true, and `writable_version(2)` is false.
+pub fn writable_version(version: u8) -> bool
+    ensures { λ r. ⌜ r ≡ writableVersion version ⌝ }
+{
+    version == 1
+}
+
+// Whether a header whose fields take so many bytes may have n bytes (RULES.md, 4): from version 2 on bytes may follow the fields.
+// Example: `right_length(1, 19, 20)` is false, and `right_length(2, 19, 20)` is true.
+pub fn right_length(version: u8, fields: usize, n: usize) -> bool
+    ensures { λ r. ⌜ r ≡ rightLength version fields n ⌝ }
+{
+    if version >= 2 {
+        return n >= fields;
+    }
+    n == fields
 }
 
 // How many channels a family allows: families 0, 1 and 255 are known.
@@ -129,16 +154,10 @@ fn right_plain(h: Head) -> bool
     octets::begins_with(&mapping, &plain[..n])
 }
 
-// Whether a reading could have given these fields (RULES.md, 4): the version is 1, the channel mapping is right, family 0
-// has its own numbers, and each place past the channels is 0. Where they are not such, writing refuses by 23.
-// Example: version 1, family 0, 2 channels, 1 stream, 1 coupled and the places 0, 1 and zeros are right. With 0 coupled they
-// are not.
-pub fn right_head(h: Head) -> bool
-    ensures { λ r. ⌜ r ≡ rightHead h ⌝ }
+// Whether all but the version is right: the channel mapping, the numbers of family 0, and zeros past the channels.
+fn right_fields(h: Head) -> bool
+    ensures { λ r. ⌜ r ≡ rightFields h ⌝ }
 {
-    if h.version != VERSION {
-        return false;
-    }
     if !right_mapping(h) {
         return false;
     }
@@ -150,8 +169,32 @@ pub fn right_head(h: Head) -> bool
     all_zero(&mapping[channels..])
 }
 
-// How long a header is in bytes (RULES.md, 4): the table has two counts and an index for each channel, and family 0 has
-// none. It refuses nothing. Example: `head_length(0, 2)` is 19, and `head_length(1, 6)` is 27.
+// Whether a reading could have given these fields (RULES.md, 4): the version is one that is read, the channel mapping is right,
+// family 0 has its own numbers, and each place past the channels is 0. Where they are not such, opening part way refuses by 23.
+// Example: version 2, family 0, 2 channels, 1 stream, 1 coupled and the places 0, 1 and zeros are right. With 0 coupled they
+// are not.
+pub fn right_head(h: Head) -> bool
+    ensures { λ r. ⌜ r ≡ rightHead h ⌝ }
+{
+    if !readable_version(h.version) {
+        return false;
+    }
+    right_fields(h)
+}
+
+// Whether the writer takes these fields (RULES.md, 4): `right_head` takes them, and the version is 1. Where it is not so, writing
+// refuses by 23. Example: the fields in the example of `right_head` are taken with version 1, and not with version 2.
+pub fn writable_head(h: Head) -> bool
+    ensures { λ r. ⌜ r ≡ writableHead h ⌝ }
+{
+    if !writable_version(h.version) {
+        return false;
+    }
+    right_fields(h)
+}
+
+// How long the fields of a header are in bytes (RULES.md, 4): the table has two counts and an index for each channel, and
+// family 0 has none. It refuses nothing. Example: `head_length(0, 2)` is 19, and `head_length(1, 6)` is 27.
 pub fn head_length(family: u8, channels: u8) -> usize
     ensures { λ r. ⌜ r ≡ headLength family channels ⌝ }
 {

@@ -13,7 +13,7 @@ use lib.Seq.{take-all}
 use Rattle.octets.specs.Octets.{Bytes, begins, copied}
 use Rattle.octets.proofs.Copying.{copied-next}
 use Rattle.head_reader.specs.Fields.{streamsOf, coupledOf, indicesOf, places}
-use Rattle.head_fields.specs.Right.{plainIndices}
+use Rattle.head_fields.specs.Right.{plainIndices, readableVersion, rightLength}
 use Rattle.head_fields.specs.Layout.{signature, versionPlace, channelsPlace, familyPlace, streamsPlace, coupledPlace, indicesPlace, startLength}
 use Rattle.head_reader.specs.Reading.{lengthOf, isHead}
 
@@ -87,15 +87,15 @@ module _ (b : Bytes) where
   no-signature s = rw s
 
   module _ (s : begins signature b ≡ true) where
-    pub other-version : eqb (getD b versionPlace 0) 1 ≡ false → isHead b ≡ false
+    pub other-version : readableVersion (getD b versionPlace 0) ≡ false → isHead b ≡ false
     unfolding isHead
     other-version v = rw (s, v)
 
-    module _ (v : eqb (getD b versionPlace 0) 1 ≡ true) where
+    module _ (v : readableVersion (getD b versionPlace 0) ≡ true) where
       pub short-head : length b < startLength → isHead b ≡ false
       unfolding isHead
       short-head h = rw (s, v, lt-leb startLength (length b) h)
 
-      pub length-decides : startLength ≤ length b → isHead b ≡ eqb (length b) (lengthOf b)
+      pub length-decides : startLength ≤ length b → isHead b ≡ rightLength (getD b versionPlace 0) (lengthOf b) (length b)
       unfolding isHead
       length-decides h = rw (s, v, le-leb startLength (length b) h)

@@ -9,14 +9,15 @@ use lib.ListN.{length, getD, take, drop, replicate, length-drop}
 use lib.Seq.{length-take-le}
 use Rattle.octets.specs.Octets.{Bytes, begins}
 use Rattle.octets.proofs.Beginnings.{begins-append}
-use Rattle.octets.proofs.Tests.{both, equal-and}
+use Rattle.octets.proofs.Tests.{both}
 use Rattle.refusal.proofs.Checks.{no-refusal, passed}
 use Rattle.refusal.specs.Checks.{firstOf}
 use Rattle.refusal.specs.Told.{gives}
 use Rattle.head_fields.specs.declared.Head.{Head}
 use Rattle.head_reader.specs.Fields.{streamsOf, coupledOf, indicesOf, places, headOf}
 use Rattle.head_fields.specs.Layout.{signature, versionPlace, channelsPlace, familyPlace, indicesPlace, startLength}
-use Rattle.head_fields.specs.Right.{plainIndices, rightVersion, allowedChannels, usedPlaces, rightStreams, rightIndices, rightPlain, rightMapping, rightHead}
+use Rattle.head_fields.specs.Right.{plainIndices, readableVersion, mayExtend, rightLength, allowedChannels, usedPlaces, rightStreams}
+use Rattle.head_fields.specs.Right.{rightIndices, rightPlain, rightMapping, rightFields, rightHead}
 use Rattle.head_reader.specs.Reading.{lengthOf, isHead, readChecks, readHead}
 use Rattle.head_reader.specs.Statements.{ReadIsRight}
 use Rattle.head_reader.proofs.Mapping.{unused-zero, plain-length}
@@ -30,29 +31,43 @@ allowed h e =
 -- what the checks of a reader that gave a header have shown
 pub record Read (b : Bytes) (h : Head) : Type 0 where
   pub starts : begins signature b ≡ true
-  pub version : getD b versionPlace 0 ≡ 1
+  pub version : readableVersion (getD b versionPlace 0) ≡ true
   pub long : startLength ≤ length b
-  pub size : length b ≡ lengthOf b
+  pub size : rightLength (getD b versionPlace 0) (lengthOf b) (length b) ≡ true
   pub mapping : rightMapping (headOf b) ≡ true
   pub given : headOf b ≡ h
 
 pub read : (b : Bytes) (h : Head) → readHead b ≡ gives h → Read b h
 unfolding readHead isHead
 read b h e =
-    let n : ℕ = lengthOf b in
+    let v : ℕ = getD b versionPlace 0 in
+    let n : Bool = rightLength v (lengthOf b) (length b) in
     let r = no-refusal (firstOf (readChecks b)) (headOf b) h e in
     let p = passed _ _ _ (r .0) in
-    let a = both (begins signature b) (rightVersion (getD b versionPlace 0) && (leb startLength (length b) && eqb (length b) n)) (not-false _ (p .0)) in
-    let v = equal-and (getD b versionPlace 0) 1 (leb startLength (length b) && eqb (length b) n) (a .1) in
-    let l = both (leb startLength (length b)) (eqb (length b) n) (v .1) in
+    let a = both (begins signature b) (readableVersion v && (leb startLength (length b) && n)) (not-false _ (p .0)) in
+    let w = both (readableVersion v) (leb startLength (length b) && n) (a .1) in
+    let l = both (leb startLength (length b)) n (w .1) in
     record {
       starts = a .0;
-      version = v .0;
+      version = w .0;
       long = leb-true startLength (length b) (l .0);
-      size = eqb-true (length b) n (l .1);
+      size = l .1;
       mapping = not-false _ (passed _ _ _ (p .1) .0);
       given = r .1;
     }
+
+-- of a right length all fields are there, and nothing else where nothing may follow them
+fields-fit : (v m n : ℕ) → rightLength v m n ≡ true → m ≤ n
+unfolding rightLength
+fields-fit v m n e = either (mayExtend v) refl
+  where
+    either : (t : Bool) → mayExtend v ≡ t → m ≤ n
+    either true p = leb-true m n (rw p at e)
+    either false p = let q : n ≡ m = eqb-true n m (rw p at e) in omega arith
+
+pub only-fields : (v m n : ℕ) → mayExtend v ≡ false → rightLength v m n ≡ true → n ≡ m
+unfolding rightLength
+only-fields v m n p e = eqb-true n m (rw p at e)
 
 module _ (b : Bytes) (h : Head) (r : Read b h) where
   -- one index for each channel
@@ -60,7 +75,8 @@ module _ (b : Bytes) (h : Head) (r : Read b h) where
   unfolding indicesOf headOf
   indices-length true e = rw e (plain-length (getD b familyPlace 0) (getD b channelsPlace 0) (allowed (headOf b) (r .mapping)) e)
   indices-length false e =
-      let size : length b ≡ startLength + (2 + getD b channelsPlace 0) = rw e at (r .size) in
+      let fit = fields-fit (getD b versionPlace 0) (lengthOf b) (length b) (r .size) in
+      let size : startLength + (2 + getD b channelsPlace 0) ≤ length b = rw e at fit in
       rw e (length-take-le (getD b channelsPlace 0) (drop indicesPlace b) (simp length-drop (omega arith)))
 
   pub indexed : length (indicesOf b) ≡ getD b channelsPlace 0
@@ -75,9 +91,9 @@ module _ (b : Bytes) (h : Head) (r : Read b h) where
       rw (e, eq-eqb (getD b channelsPlace 0 - 1) (getD b channelsPlace 0 - 1) refl) (begins-append l (replicate (255 - length l) 0))
 
   right : rightHead (headOf b) ≡ true
-  unfolding rightHead headOf
+  unfolding rightHead rightFields headOf
   right =
-      rw (eq-eqb (getD b versionPlace 0) 1 (r .version), r .mapping, plain-right (eqb (getD b familyPlace 0) 0) refl)
+      rw (r .version, r .mapping, plain-right (eqb (getD b familyPlace 0) 0) refl)
       (unused-zero (getD b channelsPlace 0) (indicesOf b) indexed)
 
 pub read-is-right : ReadIsRight

@@ -4,7 +4,7 @@ use Prim.Native.Nat.{ℕ}
 use mathlib.Core.Path.{_≡_}
 use mathlib.Core.Bool.{Bool, not, _&&_}
 use mathlib.Core.List.{List, [], _∷_}
-use lib.Dec.{leb, eqb}
+use lib.Dec.{leb}
 use lib.IntN.{pos}
 use lib.ListN.{length, getD, replicate}
 use Rattle.octets.specs.Octets.{Bytes, begins}
@@ -18,10 +18,10 @@ use Rattle.head_reader.specs.declared.Verdict.{Verdict}
 use Rattle.head_reader.specs.declared.Verdict.the-variants.{Right, Refused}
 use Rattle.head_reader.specs.declared.HeadRead.{HeadRead}
 use Rattle.head_reader.specs.Fields.{headOf}
-use Rattle.head_fields.specs.Right.{rightVersion, rightMapping}
+use Rattle.head_fields.specs.Right.{readableVersion, rightLength, rightMapping}
 use Rattle.head_fields.specs.Layout.{signature, versionPlace, channelsPlace, familyPlace, startLength, headLength}
 
--- how long a header with this family and these channels is
+-- how many bytes the fields of a header with this family and these channels take
 abbrev pub lengthOf : Bytes → ℕ
 lengthOf b = headLength (getD b familyPlace 0) (getD b channelsPlace 0)
 
@@ -29,7 +29,8 @@ lengthOf b = headLength (getD b familyPlace 0) (getD b channelsPlace 0)
 unfoldable pub isHead : Bytes → Bool
 isHead b =
     begins signature b
-    && (rightVersion (getD b versionPlace 0) && (leb startLength (length b) && eqb (length b) (lengthOf b)))
+    && (readableVersion (getD b versionPlace 0)
+    && (leb startLength (length b) && rightLength (getD b versionPlace 0) (lengthOf b) (length b)))
 
 abbrev pub readChecks : Bytes → List Check
 readChecks b = BadHead when not (isHead b) ∷ BadMapping when not (rightMapping (headOf b)) ∷ []

@@ -5,7 +5,6 @@ ghost use Rattle.head_reader.specs.Reading.{isHead, WasRefused, HeadIs};
 use head_fields::Head;
 use head_fields::SIGNATURE;
 use head_fields::START_LENGTH;
-use head_fields::VERSION;
 use head_fields::place;
 use refusal::Refusal;
 
@@ -90,7 +89,8 @@ fn is_head(b: &[u8]) -> bool
     if !octets::begins_with(b, &SIGNATURE) {
         return false;
     }
-    if octets::byte_at(b, place::VERSION) != VERSION {
+    let version = octets::byte_at(b, place::VERSION);
+    if !head_fields::readable_version(version) {
         return false;
     }
     if b.len() < START_LENGTH {
@@ -98,7 +98,8 @@ fn is_head(b: &[u8]) -> bool
     }
     let family = octets::byte_at(b, place::FAMILY);
     let channels = octets::byte_at(b, place::CHANNELS);
-    b.len() == head_fields::head_length(family, channels)
+    let fields = head_fields::head_length(family, channels);
+    head_fields::right_length(version, fields, b.len())
 }
 
 fn refused(why: Refusal) -> HeadRead
@@ -122,8 +123,8 @@ fn refused(why: Refusal) -> HeadRead
     }
 }
 
-// The fields of an identification header. 12: wrong signature, version or length. 13: not 12, and the channel mapping is
-// wrong. Under a refusal the record is all zeros.
+// The fields of an identification header (RULES.md, 4). 12: wrong signature, version or length. 13: not 12, and the channel
+// mapping is wrong. Under a refusal the record is all zeros. From version 2 on bytes after the fields are ignored.
 // Example: a right header of family 0 with two channels, of 19 bytes, gives the stream count 1, the coupled count 1 and the
 // indices 0 and 1.
 pub fn read_head(b: &[u8]) -> HeadRead

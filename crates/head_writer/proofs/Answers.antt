@@ -10,22 +10,22 @@ use Rattle.refusal.specs.declared.Refusal.{Refusal}
 use Rattle.refusal.specs.declared.Refusal.the-variants.{ShortOutput, UnfitFields}
 use Rattle.refusal.specs.Checks.{firstOf}
 use Rattle.head_fields.specs.declared.Head.{Head}
-use Rattle.head_fields.specs.Right.{rightHead}
+use Rattle.head_fields.specs.Right.{writableHead}
 use Rattle.head_writer.specs.declared.HeadWritten.the-variants.{Bytes as Written, Refused as NotWritten}
 use Rattle.head_writer.specs.Writing.{headBytes, headSize, writeChecks, writeTold, writeOut, Wrote}
 
 module _ (h : Head) (out : Bytes) where
-  pub unfit : rightHead h ≡ false → firstOf (writeChecks h (length out)) ≡ some UnfitFields
+  pub unfit : writableHead h ≡ false → firstOf (writeChecks h (length out)) ≡ some UnfitFields
   unfolding firstOf
   unfit e = rw e
 
   -- n is the header's length, as a call gave it
-  pub short-output : {n : ℕ} → n ≡ headSize h → rightHead h ≡ true → length out < n
+  pub short-output : {n : ℕ} → n ≡ headSize h → writableHead h ≡ true → length out < n
       → firstOf (writeChecks h (length out)) ≡ some ShortOutput
   unfolding firstOf
   short-output t e l = rw (e, lt-ltb (length out) (headSize h) (rw t at l))
 
-  pub writable : {n : ℕ} → n ≡ headSize h → rightHead h ≡ true → n ≤ length out
+  pub writable : {n : ℕ} → n ≡ headSize h → writableHead h ≡ true → n ≤ length out
       → firstOf (writeChecks h (length out)) ≡ none
   unfolding firstOf
   writable t e l = rw (e, le-ltb (length out) (headSize h) (rw t at l))

@@ -6,11 +6,11 @@ use Prim.Native.Nat.{ℕ, _+_, _-_, _≤_}
 use native.Mathlib.Omega.{arith}
 use borrow.Author.Tests.{ltb-false, not-false, eq-eqb, le-leb}
 use lib.Dec.{eqb}
-use lib.ListN.{length, getD, take, drop, length-drop, take-append-drop, drop-of-length-le}
+use lib.ListN.{length, getD, take, drop, length-append, length-drop, length-replicate, take-append-drop, drop-of-length-le}
 use lib.Seq.{take-all, take-length, take-append-seam}
 use mir.Syntax.{w16}
 use mir.Val.{toZ, ofZ}
-use mir.Facts.{ofZ-toZ}
+use mir.Facts.{sfits-toZ, ofZ-toZ}
 use Rattle.octets.specs.Pick.{pick}
 use Rattle.octets.specs.Octets.{Bytes, Octets, begins}
 use Rattle.octets.specs.Numbers.{octets, number}
@@ -26,12 +26,13 @@ use Rattle.head_fields.specs.Widths.{WideFields}
 use Rattle.head_fields.specs.Layout.{signature, versionPlace, channelsPlace, preskipPlace, ratePlace, gainPlace, familyPlace}
 use Rattle.head_fields.specs.Layout.{streamsPlace, coupledPlace, indicesPlace, startLength}
 use Rattle.head_reader.specs.Fields.{streamsOf, coupledOf, indicesOf, places, headOf}
-use Rattle.head_fields.specs.Right.{plainIndices, hasTable, unusedPlaces, usedPlaces, allZero, rightPlain, rightMapping, rightHead}
-use Rattle.head_reader.specs.Reading.{isHead, readHead}
+use Rattle.head_fields.specs.Right.{readableVersion, writtenVersion, mayExtend, rightLength, plainIndices, hasTable, unusedPlaces, usedPlaces, allZero}
+use Rattle.head_fields.specs.Right.{rightStreams, rightPlain, rightMapping, rightFields, rightHead, writableHead}
+use Rattle.head_reader.specs.Reading.{lengthOf, isHead, readHead}
 use Rattle.head_reader.proofs.Mapping.{used-places, places-used, channels-most, plain-length}
-use Rattle.head_reader.proofs.ReadRight.{Read, allowed, read, indexed, read-is-right}
+use Rattle.head_reader.proofs.ReadRight.{Read, allowed, read, only-fields, indexed, read-is-right}
 use Rattle.head_writer.specs.Writing.{startOf, headBytes, headSize, writeChecks, writeTold, writeOut}
-use Rattle.head_writer.specs.Statements.{ReadsBack, WritesBack}
+use Rattle.head_writer.specs.Statements.{ReadsBack, WritesBack, asWritten, WritesAnyVersion}
 use Rattle.head_writer.proofs.Answers.{writable}
 use Rattle.head_writer.proofs.HeaderBytes.{head-length, head-signature, head-version, head-channels, head-family, plain-head, table-head}
 
@@ -39,15 +40,15 @@ use Rattle.head_writer.proofs.HeaderBytes.{head-length, head-signature,
 
 -- a header's parts are right
 record Sound (h : Head) : Type 0 where
-  version : h .version ≡ 1
+  version : h .version ≡ writtenVersion
   mapping : rightMapping h ≡ true
   plain : rightPlain h ≡ true
   zeros : allZero (unusedPlaces h) ≡ true
 
-sound : (h : Head) → rightHead h ≡ true → Sound h
-unfolding rightHead
+sound : (h : Head) → writableHead h ≡ true → Sound h
+unfolding writableHead rightFields
 sound h e =
-    let a = equal-and (h .version) 1 (rightMapping h && (rightPlain h && allZero (unusedPlaces h))) e in
+    let a = equal-and (h .version) writtenVersion (rightMapping h && (rightPlain h && allZero (unusedPlaces h))) e in
     let b = both (rightMapping h) (rightPlain h && allZero (unusedPlaces h)) (a .1) in
     let c = both (rightPlain h) (allZero (unusedPlaces h)) (b .1) in
     record { version = a .0; mapping = b .0; plain = c .0; zeros = c .1 }
@@ -63,7 +64,7 @@ module _ (h : Head) (f : WideFields h) (long : length (h .mapping) ≡ 255) (s :
   whole = head-length h (omega (arith, few))
 
   one-head : isHead (headBytes h) ≡ true
-  unfolding isHead
+  unfolding isHead rightLength
   one-head =
       rw (
         head-signature h,
@@ -71,7 +72,7 @@ module _ (h : Head) (f : WideFields h) (long : length (h .mapping) ≡ 255) (s :
         head-channels h,
         head-family h,
         whole,
-        eq-eqb (h .version) 1 (s .version),
+        s .version,
         le-leb startLength (headSize h) (omega arith),
         eq-eqb (headSize h) (headSize h) refl,
       )
@@ -103,19 +104,24 @@ reads-back h out f long e =
 
 -- ---- writing what was read
 
+-- what a reading could have given is written, if it has the right version
+may-write : (h : Head) → h .version ≡ writtenVersion → rightHead h ≡ true → writableHead h ≡ true
+unfolding rightHead writableHead
+may-write h one e = rw (eq-eqb (h .version) writtenVersion one) (both (readableVersion (h .version)) (rightFields h) e .1)
+
 signed-field : (at : ℕ) (b : Bytes) → Octets b → at + 2 ≤ length b → octets 2 (ofZ w16 (toZ w16 (number 2 b at))) ++ drop (at + 2) b ≡ drop at b
 signed-field at b o h = rw (ofZ-toZ {w = w16} (record { fits = field-fits 2 at b o h })) (field 2 at b o h)
 
-module _ (b : Bytes) (h : Head) (r : Read b h) where
+module _ (b : Bytes) (h : Head) (r : Read b h) (exact : length b ≡ lengthOf b) where
   -- the table is at the end
   ended : (t : Bool) → eqb (getD b familyPlace 0) 0 ≡ t
       → pick (hasTable (getD b familyPlace 0)) (streamsOf b ∷ coupledOf b ∷ usedPlaces (headOf b)) [] ≡ drop startLength b
   unfolding streamsOf coupledOf indicesOf headOf
   ended true e =
-      let size : length b ≡ startLength = rw e at (r .size) in
+      let size : length b ≡ startLength = rw e at exact in
       rw e (sym (drop-of-length-le b {i = startLength} (omega arith)))
   ended false e =
-      let size : length b ≡ startLength + (2 + getD b channelsPlace 0) = rw e at (r .size) in
+      let size : length b ≡ startLength + (2 + getD b channelsPlace 0) = rw e at exact in
       let used : usedPlaces (headOf b) ≡ indicesOf b = used-places (getD b channelsPlace 0) (indicesOf b) (indexed b h r) in
       let all : take (getD b channelsPlace 0) (drop indicesPlace b) ≡ drop indicesPlace b = take-all (getD b channelsPlace 0) (drop indicesPlace b) (simp length-drop (omega arith)) in
       rw (used, e, all, byte coupledPlace (getD b coupledPlace 0) b refl (omega arith), byte streamsPlace (getD b streamsPlace 0) b refl (omega arith))
@@ -139,7 +145,42 @@ pub writes-back : WritesBack
 unfolding headOf writeTold writeOut
 writes-back b out h o e one room =
     let r = read b h e in
-    let same : headBytes h ≡ b = rw (r .given) at (rebuilt b h r o) in
-    let size : length b ≡ headSize h = r .size ∙ ap headSize (r .given) in
-    let clear = writable h out refl (read-is-right b h o e) (omega arith) in
+    let first : getD b versionPlace 0 ≡ writtenVersion = ap (λ (k : Head). k .version) (r .given) ∙ one in
+    let exact = only-fields (getD b versionPlace 0) (lengthOf b) (length b) (ap mayExtend first) (r .size) in
+    let same : headBytes h ≡ b = rw (r .given) at (rebuilt b h r exact o) in
+    let size : length b ≡ headSize h = exact ∙ ap headSize (r .given) in
+    let clear = writable h out refl (may-write h one (read-is-right b h o e)) (omega arith) in
     record { told = rw clear (ap gives (sym size)); output = rw (clear, same) }
+
+-- ---- any version
+
+module _ (b : Bytes) (h : Head) (o : Octets b) (r : Read b h) where
+  wide : WideFields (headOf b)
+  unfolding headOf
+  wide = record {
+    preskip = field-fits 2 preskipPlace b o (omega arith);
+    rate = field-fits 4 ratePlace b o (omega arith);
+    gain = sfits-toZ (record { fits = field-fits 2 gainPlace b o (omega arith) });
+  }
+
+  mapping-length : length (headOf b .mapping) ≡ 255
+  unfolding headOf places
+  mapping-length =
+      let few = channels-most (getD b familyPlace 0) (getD b channelsPlace 0) (allowed (headOf b) (r .mapping)) in
+      let size = indexed b h r in
+      simp (length-append, length-replicate) (omega arith)
+
+rightly-written : (h : Head) → rightHead h ≡ true → writableHead (asWritten h) ≡ true
+unfolding rightHead writableHead rightFields rightMapping rightStreams rightPlain
+rightly-written h e = both (readableVersion (h .version)) (rightFields h) e .1
+
+pub writes-any-version : WritesAnyVersion
+unfolding writeTold
+writes-any-version b out h o e room =
+    let r = read b h e in
+    let w : WideFields h = rw (r .given) at (wide b h o r) in
+    let fields : WideFields (asWritten h) = record { preskip = w .preskip; rate = w .rate; gain = w .gain } in
+    let long : length (h .mapping) ≡ 255 = rw (r .given) at (mapping-length b h o r) in
+    let clear = writable (asWritten h) out refl (rightly-written h (read-is-right b h o e)) room in
+    let wrote : writeTold (asWritten h) out ≡ gives (headSize h) = rw clear in
+    record { told = wrote; same = reads-back (asWritten h) out fields long wrote }

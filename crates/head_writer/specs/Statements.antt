@@ -5,6 +5,7 @@ use lib.ListN.{length, take}
 use Rattle.octets.specs.Octets.{Bytes, Octets, copied}
 use Rattle.refusal.specs.Told.{gives}
 use Rattle.head_fields.specs.declared.Head.{Head}
+use Rattle.head_fields.specs.Right.{writtenVersion}
 use Rattle.head_fields.specs.Widths.{WideFields}
 use Rattle.head_reader.specs.Reading.{readHead}
 use Rattle.head_writer.specs.Writing.{headSize, writeTold, writeOut}
@@ -25,3 +26,27 @@ abbrev pub WritesBack : Type 0
 WritesBack =
     (b out : Bytes) (h : Head) → Octets b → readHead b ≡ gives h → h .version ≡ 1 → length b ≤ length out
     → WroteBytes b out h
+
+-- the fields, their version set to the one that is written
+abbrev pub asWritten : Head → Head
+asWritten h = record {
+  version = writtenVersion;
+  channels = h .channels;
+  preskip = h .preskip;
+  rate = h .rate;
+  gain = h .gain;
+  family = h .family;
+  streams = h .streams;
+  coupled = h .coupled;
+  mapping = h .mapping;
+}
+
+-- the fields h, written to the start of `out`, read back
+pub record ReadBack (h : Head) (out : Bytes) : Type 0 where
+  pub told : writeTold h out ≡ gives (headSize h)
+  pub same : readHead (take (headSize h) (writeOut h out)) ≡ gives h
+
+-- whatever the version of a header that was read, its fields with the version that is written are written and read back
+abbrev pub WritesAnyVersion : Type 0
+WritesAnyVersion =
+    (b out : Bytes) (h : Head) → Octets b → readHead b ≡ gives h → headSize h ≤ length out → ReadBack (asWritten h) out

@@ -19,7 +19,7 @@ use Rattle.refusal.specs.Numbers.{numberOf}
 use Rattle.head_fields.specs.declared.Head.{Head}
 use Rattle.head_writer.specs.declared.HeadWritten.{HeadWritten}
 use Rattle.head_writer.specs.declared.HeadWritten.the-variants.{Bytes as Written, Refused}
-use Rattle.head_fields.specs.Right.{hasTable, usedPlaces, rightHead}
+use Rattle.head_fields.specs.Right.{hasTable, usedPlaces, writableHead}
 use Rattle.head_fields.specs.Layout.{signature, headLength}
 
 -- the bytes before the table
@@ -36,7 +36,7 @@ abbrev pub headSize : Head → ℕ
 headSize h = headLength (h .family) (h .channels)
 
 abbrev pub writeChecks : Head → ℕ → List Check
-writeChecks h n = UnfitFields when not (rightHead h) ∷ ShortOutput when ltb n (headSize h) ∷ []
+writeChecks h n = UnfitFields when not (writableHead h) ∷ ShortOutput when ltb n (headSize h) ∷ []
 
 -- the output at the end: a refusal writes nothing
 abbrev pub written : Option Refusal → Bytes → Bytes → Bytes

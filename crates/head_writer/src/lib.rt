@@ -72,7 +72,7 @@ fn put_head(h: Head, out: &mut [u8])
 pub fn write_head(h: Head, out: &mut [u8]) -> HeadWritten
     ensures { λ r. ⌜ Wrote h (now (out .entry)) r (now (out .exit)) ⌝ }
 {
-    if !head_fields::right_head(h) {
+    if !head_fields::writable_head(h) {
         return HeadWritten::Refused(Refusal::UnfitFields);
     }
     let size = head_fields::head_length(h.family, h.channels);

@@ -53,8 +53,8 @@ pub fn start() -> Reader
     }
 }
 
-// A reader that waits for any audio page of a stream with this header. It skips no samples. 23: `head_writer::write_head`
-// would refuse the fields by 23 (RULES.md, 9).
+// A reader that waits for any audio page of a stream with this header. It skips no samples. 23: no reading gives these
+// fields, by `head_fields::right_head` (RULES.md, 9).
 // Example: right fields give `Opened::At(reader)`, and `position(reader)` is `Position::Joined`.
 pub fn open(head: Head) -> Opened
     ensures { λ r. ⌜ toldOpened r ≡ openPartWay head ⌝ }

@@ -2,55 +2,57 @@
 use mathlib.Core.Path.{sym, ap, ap₂, _∙_}
 use Prim.Native.Nat.{ℕ}
 use borrow.Author.Needs.{needs}
-use borrow.Author.Tests.{not-true, not-false}
 use denote.Ref.{now}
-use lib.Dec.{eqb}
 use lib.ListN.{length}
-use Rattle.octets.proofs.Tests.{equals, unequal}
+use Rattle.octets.proofs.Tests.{failed, held}
+use Rattle.head_fields.specs.Right.{readableVersion, rightLength}
 use Rattle.head_fields.specs.Layout.{headLength}
 use Rattle.head_reader.proofs.Places.{no-signature, other-version, short-head, length-decides}
 use Rattle.head_reader.proofs.is_head.Statement.{statement}
 use Rattle.head_reader.proofs.is_head.Tie as tie
 
 returns : tie.Need-returns
-returns c =
-    let call = c .before .begins-with in
-    sym (no-signature (now (c .before .before .before .before .args .b)) (sym (call .ensures) ∙ not-true (call .result) (c .if1 .taken)))
+returns c = sym (no-signature (now (c .before .before .before .before .args .b)) (failed (c .before .begins-with .ensures) (c .if1 .taken)))
 
 returns-2 : tie.Need-returns-2
 returns-2 c =
-    let first = c .before .before in
-    let call = first .before .begins-with in
+    let version = c .before .before in
+    let first = version .before in
     sym
-    (other-version (now (first .before .before .before .before .args .b)) (sym (call .ensures) ∙ not-false (call .result) (first .if1 .left))
-    (unequal (c .before .byte-at .ensures) (c .if2 .taken)))
+    (other-version (now (first .before .before .before .before .args .b)) (held (first .before .begins-with .ensures) (first .if1 .left))
+    (failed (c .before .readable-version .ensures ∙ ap readableVersion (version .byte-at .ensures)) (c .if2 .taken)))
 
 returns-3 : tie.Need-returns-3
 returns-3 c =
     let second = c .before in
-    let first = second .before .before in
-    let call = first .before .begins-with in
+    let version = second .before .before in
+    let first = version .before in
     sym
-    (short-head (now (first .before .before .before .before .args .b)) (sym (call .ensures) ∙ not-false (call .result) (first .if1 .left))
-    (equals (second .before .byte-at .ensures) (second .if2 .left)) (c .if3 .taken))
+    (short-head (now (first .before .before .before .before .args .b)) (held (first .before .begins-with .ensures) (first .if1 .left))
+    (held (second .before .readable-version .ensures ∙ ap readableVersion (version .byte-at .ensures)) (second .if2 .left))
+    (c .if3 .taken))
 
 returns-4 : tie.Need-returns-4
 returns-4 c =
-    let channels = c .before in
+    let fields = c .before in
+    let channels = fields .before in
     let family = channels .before in
     let third = family .before in
     let second = third .before in
-    let first = second .before .before in
-    let call = first .before .begins-with in
+    let version = second .before .before in
+    let first = version .before in
     let b = now (first .before .before .before .before .args .b) in
-    ap (λ (n : ℕ). eqb (length b) n) (c .head-length .ensures ∙ ap₂ headLength (family .byte-at2 .ensures) (channels .byte-at3 .ensures))
+    let size = fields .head-length .ensures ∙ ap₂ headLength (family .byte-at2 .ensures) (channels .byte-at3 .ensures) in
+    c .right-length .ensures
+    ∙ ap₂ (λ (v n : ℕ). rightLength v n (length b)) (version .byte-at .ensures) size
     ∙ sym
-    (length-decides b (sym (call .ensures) ∙ not-false (call .result) (first .if1 .left))
-    (equals (second .before .byte-at .ensures) (second .if2 .left)) (third .if3 .left))
+    (length-decides b (held (first .before .begins-with .ensures) (first .if1 .left))
+    (held (second .before .readable-version .ensures ∙ ap readableVersion (version .byte-at .ensures)) (second .if2 .left))
+    (third .if3 .left))
 
 pub is-head-spec : {M : Type 1} → statement M
 is-head-spec =
     tie.close
     (tie.spec
-    (λ c. search needs) (λ c κs. search needs) returns (λ c κs. search needs) returns-2
-    returns-3 (λ c κs. search needs) (λ c κs. search needs) (λ c κs. search needs) returns-4)
+    (λ c. search needs) (λ c κs. search needs) returns (λ c κs. search needs) (λ c κs. search needs) returns-2
+    returns-3 (λ c κs. search needs) (λ c κs. search needs) (λ c κs. search needs) (λ c κs. search needs) returns-4)

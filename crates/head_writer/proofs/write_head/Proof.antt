@@ -10,14 +10,14 @@ use Rattle.head_writer.proofs.write_head.Tie as tie
 returns : tie.Need-returns
 returns c =
     let a = c .before .before .before .args in
-    not-written (a .h) (now (a .out)) UnfitFields (unfit (a .h) (now (a .out)) (failed (c .before .right-head .ensures) (c .if1 .taken)))
+    not-written (a .h) (now (a .out)) UnfitFields (unfit (a .h) (now (a .out)) (failed (c .before .writable-head .ensures) (c .if1 .taken)))
 
 returns-2 : tie.Need-returns-2
 returns-2 c =
     let first = c .before .before in
     let a = first .before .before .before .args in
     not-written (a .h) (now (a .out)) ShortOutput
-    (short-output (a .h) (now (a .out)) (c .before .head-length .ensures) (held (first .before .right-head .ensures) (first .if1 .left)) (c .if2 .taken))
+    (short-output (a .h) (now (a .out)) (c .before .head-length .ensures) (held (first .before .writable-head .ensures) (first .if1 .left)) (c .if2 .taken))
 
 returns-3 : tie.Need-returns-3
 returns-3 c =
@@ -26,7 +26,7 @@ returns-3 c =
     let first = size .before in
     let a = first .before .before .before .args in
     wrote (a .h) (now (a .out)) (size .head-length .ensures) (c .before .before .put-head .ensures)
-    (writable (a .h) (now (a .out)) (size .head-length .ensures) (held (first .before .right-head .ensures) (first .if1 .left)) (room .if2 .left))
+    (writable (a .h) (now (a .out)) (size .head-length .ensures) (held (first .before .writable-head .ensures) (first .if1 .left)) (room .if2 .left))
 
 pub write-head-spec : {M : Type 1} → statement M
 write-head-spec =

@@ -1,0 +1,24 @@
+-- The header meets the hypotheses. Assumes nothing.
+use mathlib.Core.Path.{_≡_, refl, subst}
+use native.Mathlib.Omega.{arith}
+use Rattle.octets.specs.Octets.{Octets, begins}
+use Rattle.octets.specs.Numbers.{value, octets, number}
+use Rattle.octets.proofs.Numbers.{octets-below}
+use Rattle.refusal.specs.Checks.{firstOf}
+use Rattle.head_fields.specs.Right.{rightLength, allowedChannels, rightStreams, rightIndices, rightMapping}
+use Rattle.head_reader.specs.Fields.{streamsOf, coupledOf, indicesOf, places, headOf}
+use Rattle.head_reader.specs.Reading.{isHead, readHead}
+use Rattle.head_writer.specs.Instances.{header, MeetsExtra, MeetsAnyVersion}
+
+pub meets-extra : MeetsExtra
+meets-extra = record { extends = refl; size = refl }
+
+-- the bytes of the number that the header is
+bytes-are : octets 20 (value header) ≡ header
+unfolding octets value
+bytes-are = refl
+
+pub meets-any-version : MeetsAnyVersion
+unfolding readHead firstOf isHead rightLength begins headOf streamsOf coupledOf indicesOf places number value
+    rightMapping allowedChannels rightStreams rightIndices
+meets-any-version = record { octets = subst Octets bytes-are (octets-below 20 (value header)); reads = refl; room = omega arith }
