@@ -137,9 +137,12 @@ uint32_t embulgri_clock_add(float *reading, uint64_t *count, uint64_t length);
  *   3   the last granule position: 0 none yet, 1 none yet in a stream that was opened part way, 2 it is number 4
  *   4   the last granule position
  *   5   the serial, 6 the sequence number that is due, 7 the stream count, 8 the pre-skip, 9 the samples still to skip
- *   10 to 15  zeros
+ *   10  the samples kept on all accepted pages, 11 those skipped, 12 those trimmed, 13 the holes; starting and opening
+ *       store zeros, and a refused page changes none
+ *   14, 15  zeros
  * Of other numbers, one above 4 in place 0 means 4, and one above 2 in places 1 and 3 means 2. Those in places 5 to 9
- * count modulo 2^32, 2^32, 2^8, 2^16 and 2^16. Places 10 to 15 are not looked at. */
+ * count modulo 2^32, 2^32, 2^8, 2^16 and 2^16. Those in places 10 to 13 count as they are, and adding to them is modulo
+ * 2^64, which no stream reaches. Places 14 and 15 are not looked at. */
 
 /* A reader that waits for the first page of a stream. It refuses nothing.
  * Example: the state that is stored is 16 zeros. */

@@ -1,37 +1,59 @@
 //! A stream by its accepted pages alone, with no reader in it: its packets, joined from the lacing
 //! values of all the pages, and its samples, each counted by itself (RFC 7845, section 4).
 
-use crate::feeding::LAST;
+use crate::feeding::{CONTINUED, LAST};
 use crate::ogg::Page;
+use crate::reader::Totals;
+use std::fmt::Display;
 
-/// A packet, and the number of the page that it began on.
+/// A packet, and the number of the page that it began on: none if that was before all the pages.
+#[derive(Clone)]
 pub struct Packet {
-    pub began: usize,
+    pub began: Option<usize>,
     pub bytes: Vec<u8>,
 }
 
-/// The packets that complete on each of some audio pages.
-pub fn packets(pages: &[Page]) -> Vec<Vec<Packet>> {
-    let mut unfinished = None;
-    let mut completed = Vec::new();
-    for (began, page) in pages.iter().enumerate() {
+/// Packets put together from one page after the other.
+#[derive(Clone, Default)]
+pub struct Joining {
+    pages: usize,
+    pub unfinished: Option<Packet>,
+}
+
+impl Joining {
+    /// The packets that complete on the next page.
+    pub fn add(&mut self, page: &Page) -> Vec<Packet> {
+        let begun = |began| Packet {
+            began,
+            bytes: Vec::new(),
+        };
+        if page.flags & CONTINUED != 0 {
+            self.unfinished.get_or_insert_with(|| begun(None));
+        }
         let mut here = Vec::new();
         let mut rest = &page.body[..];
         for &value in &page.lacing {
             let part = rest.split_off(..usize::from(value)).expect("a whole body");
-            let bytes = Vec::new();
-            let packet = unfinished.get_or_insert(Packet { began, bytes });
+            let began = Some(self.pages);
+            let packet = self.unfinished.get_or_insert_with(|| begun(began));
             packet.bytes.extend(part);
             if value < 255 {
-                here.extend(unfinished.take());
+                here.extend(self.unfinished.take());
             }
         }
-        completed.push(here);
+        self.pages += 1;
+        here
     }
-    completed
+}
+
+/// The packets that complete on each of some audio pages.
+pub fn packets(pages: &[Page]) -> Vec<Vec<Packet>> {
+    let mut joining = Joining::default();
+    pages.iter().map(|page| joining.add(page)).collect()
 }
 
 /// What the pages of a stream so far come to.
+#[derive(Clone)]
 pub struct Count {
     pre_skip: i128,
     decoded: i128,
@@ -41,6 +63,8 @@ pub struct Count {
     last: Option<i128>,
     /// The samples kept, counted one by one.
     pub kept: i128,
+    skipped: i128,
+    trimmed: i128,
 }
 
 impl Count {
@@ -52,6 +76,8 @@ impl Count {
             holes: 0,
             last: None,
             kept: 0,
+            skipped: 0,
+            trimmed: 0,
         }
     }
 
@@ -72,8 +98,11 @@ impl Count {
         let is_cut = is_last && granule < before + samples;
         let start = if is_cut { before } else { granule - samples };
         for position in start + 1..=start + samples {
-            let is_trimmed = is_last && position > granule;
-            if !is_trimmed && self.decoded >= self.pre_skip {
+            if is_last && position > granule {
+                self.trimmed += 1;
+            } else if self.decoded < self.pre_skip {
+                self.skipped += 1;
+            } else {
                 self.kept += 1;
             }
             self.decoded += 1;
@@ -85,5 +114,18 @@ impl Count {
     pub fn kept_by_positions(&self) -> i128 {
         let last = self.last.unwrap_or(self.initial);
         (last - self.initial - self.holes - self.pre_skip).max(0)
+    }
+
+    /// Holds a reader's totals to the samples counted one by one. They are all that were decoded,
+    /// and with the holes and the initial position they reach to the last granule position.
+    pub fn check(&self, totals: Totals, case: impl Display) {
+        let found = totals.map(i128::from);
+        let counted = [self.kept, self.skipped, self.trimmed, self.holes];
+        assert_eq!(found, counted, "totals, {case}");
+        let [kept, skipped, trimmed, holes] = found;
+        assert_eq!(kept + skipped + trimmed, self.decoded, "decoded, {case}");
+        assert!(skipped <= self.pre_skip, "skipped, {case}");
+        let reached = self.initial + kept + skipped + holes;
+        assert_eq!(reached, self.last.unwrap_or(0), "reached, {case}");
     }
 }

@@ -1,10 +1,12 @@
 //! Feeding calls of the library that watch all that they are lent, and what the rules say that they
 //! leave.
 
+use crate::counted::Counted;
 use crate::feeding::{self, Lent, LIST};
 use crate::ffi;
 use crate::head::Head;
-use crate::reader::{Reader, NUMBERS};
+use crate::ogg;
+use crate::reader::{totals_in, Reader, Totals, NUMBERS};
 use crate::reading::Reading;
 use crate::stamps::Listing;
 use crate::tags::LONGEST;
@@ -71,11 +73,13 @@ impl Memory {
     }
 }
 
-/// A reader of the library, and one by the rules.
+/// A reader of the library, and one by the rules. If it was started or opened, what it accepted is
+/// also counted with no reader, and the totals are held to that after every call.
 #[derive(Clone)]
 pub struct Feeder {
     library: Memory,
     rules: Memory,
+    stream: Option<Counted>,
 }
 
 impl Feeder {
@@ -86,6 +90,7 @@ impl Feeder {
         Feeder {
             library: memory.clone(),
             rules: memory,
+            stream: None,
         }
     }
 
@@ -100,6 +105,7 @@ impl Feeder {
     pub fn start(&mut self) {
         ffi::start(self.library.numbers_mut());
         *self.rules.numbers_mut() = Reader::started().numbers();
+        self.stream = Some(Counted::started());
         self.check_state("started");
     }
 
@@ -109,6 +115,7 @@ impl Feeder {
         let answer = ffi::open(head, self.library.numbers_mut());
         if let Ok(reader) = &told {
             *self.rules.numbers_mut() = reader.numbers();
+            self.stream = Some(Counted::opened(head));
         }
         assert_eq!(answer, told.err().unwrap_or(0), "opened, {case}");
         self.check_state(case);
@@ -119,6 +126,7 @@ impl Feeder {
     pub fn set(&mut self, numbers: [u64; NUMBERS]) {
         *self.library.numbers_mut() = numbers;
         *self.rules.numbers_mut() = numbers;
+        self.stream = None;
     }
 
     pub fn numbers(&self) -> [u64; NUMBERS] {
@@ -127,6 +135,11 @@ impl Feeder {
 
     pub fn reader(&self) -> Reader {
         Reader::from_numbers(self.rules.numbers())
+    }
+
+    /// The totals of the library's reader.
+    pub fn totals(&self) -> Totals {
+        totals_in(self.library.numbers())
     }
 
     /// What the carry buffer holds.
@@ -138,6 +151,9 @@ impl Feeder {
     pub fn put_in_carry(&mut self, place: usize, bytes: &[u8]) {
         for memory in [&mut self.library, &mut self.rules] {
             memory.carry[BEFORE + place..][..bytes.len()].copy_from_slice(bytes);
+        }
+        if let Some(stream) = &mut self.stream {
+            stream.put(place, bytes);
         }
     }
 
@@ -157,6 +173,9 @@ impl Feeder {
         let told = feeding::feed(&mut reader, page, &mut lent);
         if told.is_ok() {
             *numbers = reader.numbers();
+            if let Some(stream) = &mut self.stream {
+                stream.accept(&ogg::read(page).expect("a page"));
+            }
         }
         let record = told
             .as_ref()
@@ -171,5 +190,8 @@ impl Feeder {
 
     fn check_state(&self, case: impl Display) {
         assert_eq!(self.library.state, self.rules.state, "state, {case}");
+        if let Some(stream) = &self.stream {
+            stream.check(self.totals(), case);
+        }
     }
 }

@@ -32,12 +32,12 @@ pub const FIRST_PAGE: &[Change<Case>] = &[
     change(
         "a packet after the header",
         &[HEADER_SHAPE],
-        |random, case| put_behind(random, case, true),
+        |random, case| put_after(random, case, true),
     ),
     change(
         "an unfinished packet after the header",
         &[HEADER_SHAPE],
-        |random, case| put_behind(random, case, false),
+        |random, case| put_after(random, case, false),
     ),
     change("an unfinished header", &[HEADER_SHAPE], |random, case| {
         case.put(&[(random.bytes(255), false)])
@@ -97,7 +97,7 @@ pub const COMMENT_PAGE: &[Change<Case>] = &[
         &[HEADER_SHAPE],
         |random, case| {
             complete(case);
-            put_behind(random, case, true)
+            put_after(random, case, true)
         },
     ),
     change(
@@ -105,7 +105,7 @@ pub const COMMENT_PAGE: &[Change<Case>] = &[
         &[HEADER_SHAPE],
         |random, case| {
             complete(case);
-            put_behind(random, case, false)
+            put_after(random, case, false)
         },
     ),
     change(
@@ -167,7 +167,7 @@ fn put_granule(random: &mut Random, case: &mut Case) {
     case.page.granule = *random.pick(&[1, NO_GRANULE, 1 << 32, 1 << 63, any | 1]);
 }
 
-fn put_behind(random: &mut Random, case: &mut Case, ends: bool) {
+fn put_after(random: &mut Random, case: &mut Case, ends: bool) {
     let mut pieces = case.pieces();
     let length = if ends { random.within(1..=300) } else { 255 };
     pieces.push((random.bytes(length), ends));

@@ -29,6 +29,11 @@ pub const HEADER_SHAPE: u32 = 10;
 /// The granule field cannot be on this page.
 pub const WRONG_GRANULE: u32 = 11;
 
+/// The refusals that feeding can give.
+pub const REFUSALS: [u32; 19] = [
+    1, 2, 3, 4, 5, 6, 7, 8, 9, 10, 11, 12, 13, 14, 15, 16, 17, 18, 19,
+];
+
 /// The flags of a page.
 pub const CONTINUED: u64 = 1;
 pub const FIRST: u64 = 2;
@@ -75,6 +80,7 @@ pub fn feed(reader: &mut Reader, bytes: &[u8], lent: &mut Lent) -> Result<Listin
         _ => feeding.take_audio(&mut next, lent.carry)?,
     };
     feeding.finish(&mut next, lent.carry);
+    next.count(&listing);
     *reader = next;
     for (place, entry) in listing.entries.iter().enumerate() {
         let fields = [entry.end, entry.length, entry.kept];

@@ -7,6 +7,7 @@ pub mod by_hand;
 pub mod calls;
 pub mod clock;
 pub mod clock_inputs;
+pub mod counted;
 pub mod damages;
 pub mod demands;
 pub mod feed_audio;

@@ -2,9 +2,16 @@
 //! it over the C interface. What it does with a page is in [`crate::feeding`].
 
 use crate::head::{Head, UNFIT_FIELDS};
+use crate::stamps::Listing;
+use std::ops::Range;
 
 /// The places of a reader's numbers.
 pub const NUMBERS: usize = 16;
+/// Those of its totals. The two after them are zeros that nothing looks at.
+pub const TOTALS: Range<usize> = 10..14;
+
+/// Of all the pages accepted: the samples kept, skipped and trimmed, and those of the holes.
+pub type Totals = [u64; 4];
 
 #[derive(Clone, Copy, Debug, PartialEq, Eq)]
 pub enum Phase {
@@ -50,6 +57,7 @@ pub struct Reader {
     pub pre_skip: u16,
     /// The samples still to be skipped.
     pub to_skip: u16,
+    pub totals: Totals,
 }
 
 impl Reader {
@@ -64,6 +72,7 @@ impl Reader {
             streams: 0,
             pre_skip: 0,
             to_skip: 0,
+            totals: [0; 4],
         }
     }
 
@@ -84,6 +93,15 @@ impl Reader {
     /// Whether the comment packet is still to be completed.
     pub fn is_in_headers(&self) -> bool {
         matches!(self.phase, Phase::First | Phase::Comment)
+    }
+
+    /// Adds what becomes of the samples of an accepted page to the totals, modulo 2^64.
+    pub fn count(&mut self, listing: &Listing) {
+        let counts = [listing.kept, listing.skipped, listing.trimmed, listing.hole];
+        for (total, count) in self.totals.iter_mut().zip(counts) {
+            let sum = u128::from(*total) + u128::from(count);
+            *total = (sum % (1 << 64)) as u64;
+        }
     }
 
     /// The reader that any sixteen numbers represent: an unknown phase is Ended, an unknown
@@ -115,6 +133,7 @@ impl Reader {
             streams: streams as u8,
             pre_skip: pre_skip as u16,
             to_skip: to_skip as u16,
+            totals: totals_in(numbers),
         }
     }
 
@@ -142,6 +161,12 @@ impl Reader {
             self.pre_skip.into(),
             self.to_skip.into(),
         ]);
+        numbers[TOTALS].copy_from_slice(&self.totals);
         numbers
     }
+}
+
+/// The totals among a reader's numbers: any are as good as others.
+pub fn totals_in(numbers: &[u64; NUMBERS]) -> Totals {
+    numbers[TOTALS].try_into().expect("four places")
 }

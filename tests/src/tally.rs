@@ -2,6 +2,7 @@
 //! the counts are printed and held to a minimum.
 
 use crate::inputs::Change;
+use crate::reader::Totals;
 use std::collections::BTreeMap;
 use std::io::{self, Write};
 
@@ -29,13 +30,18 @@ impl Tally {
     /// Prints the counts. Fails unless there were enough inputs, a third of them were accepted,
     /// each of the refusals came often enough, and no other number came.
     pub fn finish(&self, run: &str, least_inputs: usize, refusals: &[u32]) {
+        self.finish_by(run, least_inputs, refusals, LEAST_OF_EACH_REFUSAL);
+    }
+
+    /// The same with another least count of each refusal.
+    pub fn finish_by(&self, run: &str, least_inputs: usize, refusals: &[u32], least: usize) {
         self.print(run);
         let total = self.total();
         assert!(total >= least_inputs, "{run}: too few inputs");
         assert!(3 * self.of(0) >= total, "{run}: too few accepted");
         for &number in refusals {
             assert!(
-                self.of(number) >= LEAST_OF_EACH_REFUSAL,
+                self.of(number) >= least,
                 "{run}: too few refused by {number}"
             );
         }
@@ -93,6 +99,33 @@ impl Aims {
             let count = self.counts.get(way.name).copied().unwrap_or(0);
             say(&format!("  {:?} by {}: {count}", way.answers, way.name));
             assert!(count >= least(way), "{}: too few", way.name);
+        }
+    }
+}
+
+/// Counts of how often each of a reader's totals, of kept, skipped and trimmed samples and of holes,
+/// moved, and how often it passed 2^64 then.
+#[derive(Default)]
+pub struct Moves([[usize; 4]; 2]);
+
+impl Moves {
+    pub fn add(&mut self, before: Totals, after: Totals) {
+        let [moved, wrapped] = &mut self.0;
+        for place in 0..before.len() {
+            moved[place] += usize::from(after[place] != before[place]);
+            wrapped[place] += usize::from(after[place] < before[place]);
+        }
+    }
+
+    /// Prints the counts. Fails if a total moved, or wrapped, less often than is asked.
+    pub fn finish(&self, run: &str, least: [usize; 2]) {
+        let [moved, wrapped] = self.0;
+        say(&format!(
+            "{run}, kept, skipped, trimmed and hole: moved {moved:?}, wrapped {wrapped:?}"
+        ));
+        for (counts, least) in self.0.iter().zip(least) {
+            let is_enough = |&count: &usize| count >= least;
+            assert!(counts.iter().all(is_enough), "{run}: too few");
         }
     }
 }

@@ -8,7 +8,7 @@ use embulgri_tests::ogg::{self, Page};
 use embulgri_tests::reader::{Phase, Position, Unfinished};
 
 #[test]
-fn the_listing_of_three_packets_behind_a_pre_skip() {
+fn the_listing_of_three_packets_after_a_pre_skip() {
     let listed = feed(&mut full(312), &page(0, 2_880, 2, &[SOUND; 3]));
     assert_eq!(
         listed,
@@ -130,7 +130,7 @@ fn a_reader_opened_part_way_refuses_an_end_with_nothing_to_stand_on() {
 }
 
 #[test]
-fn the_sequence_goes_on_behind_its_largest_number() {
+fn the_sequence_goes_on_after_its_largest_number() {
     let mut feeder = opened(0);
     for sequence in [u32::MAX - 1, u32::MAX, 0, 1] {
         let page = page(0, MOST_GRANULE, sequence, &[]);

@@ -120,7 +120,7 @@ fn check_opened(
         if is_last && completes && !stands {
             assert_eq!(listed, Err(NO_POSITION));
         } else {
-            let begun_before = packets.iter().filter(|packet| packet.began < first);
+            let begun_before = packets.iter().filter(|packet| packet.began < Some(first));
             let expected = stamps(&accepted.listed[begun_before.count()..]);
             assert_eq!(listed, Ok(expected), "opened at {first}");
         }

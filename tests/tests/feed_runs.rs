@@ -1,25 +1,21 @@
 //! Holds starting, opening part way and feeding to an independent reader, on random recordings with
 //! wrong pages between their own.
 
-use embulgri_tests::feed_calls::Feeder;
+use embulgri_tests::feed_calls::{Feeder, Room};
 use embulgri_tests::feed_choice::{fault, room, WAYS};
 use embulgri_tests::feed_faults::Case;
-use embulgri_tests::feeding::{HEADER_SHAPE, WRONG_GRANULE};
+use embulgri_tests::feeding::{HEADER_SHAPE, REFUSALS, WRONG_GRANULE};
 use embulgri_tests::inputs::Change;
 use embulgri_tests::ogg;
 use embulgri_tests::random::{times, Random};
 use embulgri_tests::reader::{Phase, Position, Reader, Unfinished};
 use embulgri_tests::recording::{recording, Recording, Written};
 use embulgri_tests::tags::LONGEST;
-use embulgri_tests::tally::{Aims, Tally};
+use embulgri_tests::tally::{Aims, Moves, Tally};
 
 const RECORDINGS: usize = 32_000;
 const LEAST_FEEDINGS: usize = 200_000;
-
-/// The refusals that feeding can give.
-const REFUSALS: [u32; 19] = [
-    1, 2, 3, 4, 5, 6, 7, 8, 9, 10, 11, 12, 13, 14, 15, 16, 17, 18, 19,
-];
+const LEAST_MOVED: usize = 1_000;
 
 /// A run of feedings to one reader after the other, on one memory.
 struct Run {
@@ -27,6 +23,7 @@ struct Run {
     feeder: Feeder,
     tally: Tally,
     aims: Aims,
+    moves: Moves,
     recording: usize,
 }
 
@@ -37,6 +34,7 @@ impl Run {
             feeder: Feeder::started(),
             tally: Tally::default(),
             aims: Aims::default(),
+            moves: Moves::default(),
             recording: 0,
         }
     }
@@ -72,22 +70,27 @@ impl Run {
 
     fn feed_wrong(&mut self, written: &Written, reader: Reader) -> bool {
         let fault = fault(&mut self.random, reader, written);
-        let name = format!("recording {}: {}", self.recording, fault.name);
-        let told = self.feeder.feed(&fault.bytes, fault.room, name);
-        let answer = told.as_ref().err().copied().unwrap_or(0);
-        self.tally.add(answer);
+        let answer = self.feed(&fault.bytes, fault.room, &fault.name);
         if let Some(way) = fault.way {
             self.aims.add(way, answer);
         }
-        told.is_ok()
+        answer == 0
     }
 
     fn feed_one(&mut self, page: &ogg::Page) -> bool {
         let room = room(&mut self.random);
-        let name = format!("recording {}: its own page", self.recording);
-        let told = self.feeder.feed(&ogg::encode(page), room, name);
-        self.tally.add(told.as_ref().err().copied().unwrap_or(0));
-        told.is_ok()
+        self.feed(&ogg::encode(page), room, "its own page") == 0
+    }
+
+    /// Feeds a page and gives the answer.
+    fn feed(&mut self, bytes: &[u8], room: Room, name: &str) -> u32 {
+        let before = self.feeder.totals();
+        let name = format!("recording {}: {name}", self.recording);
+        let told = self.feeder.feed(bytes, room, name);
+        let answer = told.err().unwrap_or(0);
+        self.tally.add(answer);
+        self.moves.add(before, self.feeder.totals());
+        answer
     }
 
     /// Changes bytes of the carry buffer: often after the held ones, seldom among them.
@@ -147,6 +150,7 @@ fn feeding_gives_the_number_the_reader_and_the_lists_that_the_rules_say() {
         run.feed_all(&recording.pages[first..]);
     }
     run.tally.finish("pages fed", LEAST_FEEDINGS, &REFUSALS);
+    run.moves.finish("totals of the readers", [LEAST_MOVED, 0]);
     for ways in WAYS {
         run.aims.finish(ways, least);
     }

@@ -1,9 +1,9 @@
 //! Any sixteen numbers are a reader: holds feeding to the independent reader that they represent by
 //! the stated rule, and opening part way to the rules of headers.
 
-use embulgri_tests::feed_calls::Feeder;
-use embulgri_tests::feed_choice::room;
-use embulgri_tests::feeding::{CONTINUED, FIRST, MOST_GRANULE};
+use embulgri_tests::feed_calls::{Feeder, Room};
+use embulgri_tests::feed_choice::{fault, room};
+use embulgri_tests::feeding::{CONTINUED, FIRST, MOST_GRANULE, REFUSALS};
 use embulgri_tests::head::{UNFIT_FIELDS, WRITTEN};
 use embulgri_tests::head_damages::{LEGAL, WRONG_MAPPINGS};
 use embulgri_tests::head_demands::DEMANDS;
@@ -11,12 +11,15 @@ use embulgri_tests::head_inputs::{head, version};
 use embulgri_tests::inputs::{change, Change};
 use embulgri_tests::ogg::{self, Page};
 use embulgri_tests::random::{times, Random};
-use embulgri_tests::reader::{Phase, Reader, Unfinished, NUMBERS};
-use embulgri_tests::recording::recording;
+use embulgri_tests::reader::{Phase, Reader, Unfinished, NUMBERS, TOTALS};
+use embulgri_tests::recording::{recording, Written};
 use embulgri_tests::tags::LONGEST;
-use embulgri_tests::tally::Tally;
+use embulgri_tests::tally::{Moves, Tally};
 
-const RECORDINGS: usize = 4_000;
+const RECORDINGS: usize = 8_000;
+const LEAST_FEEDINGS: usize = 100_000;
+const LEAST_OF_EACH: usize = 200;
+const LEAST_MOVED: usize = 1_000;
 const OPENINGS: usize = 120_000;
 const LEAST_OPENINGS: usize = 100_000;
 
@@ -29,11 +32,20 @@ const CHANGES: &[Change<Numbers>] = &[
         let (place, width) = *random.pick(&[(5, 32), (6, 32), (7, 8), (8, 16), (9, 16)]);
         numbers[place] |= random.number() << width
     }),
+    change("other totals", &[], |random, numbers| {
+        numbers[TOTALS].fill_with(|| random.field())
+    }),
     change("numbers that nothing uses", &[], |random, numbers| {
-        numbers[10..].fill_with(|| random.field())
+        numbers[TOTALS.end..].fill_with(|| random.field())
     }),
     change("another phase", &[], |random, numbers| {
         numbers[0] = *random.pick(&[0, 1, 2, 3, 4, 5, 256, 1 << 32, u64::MAX])
+    }),
+    change("no page yet", &[], |_, numbers| {
+        numbers[..4].copy_from_slice(&[0; 4])
+    }),
+    change("opened with no page yet", &[], |_, numbers| {
+        numbers[..4].copy_from_slice(&[3, 0, 0, 1])
     }),
     change("another unfinished packet", &[], |random, numbers| {
         numbers[1] = *random.pick(&[0, 1, 2, 3, 256, 257, u64::MAX])
@@ -102,41 +114,61 @@ fn fit(page: &mut Page, reader: &Reader) {
     }
 }
 
+/// The numbers of a reader changed in one way or two, and the name of the first. Often the totals
+/// are just below 2^64.
+fn changed(random: &mut Random, mut numbers: Numbers) -> (Numbers, &'static str) {
+    let (one, other) = (random.pick(CHANGES), random.pick(CHANGES));
+    (one.apply)(random, &mut numbers);
+    if random.one_in(3) {
+        (other.apply)(random, &mut numbers);
+    }
+    if random.one_in(3) {
+        numbers[TOTALS].fill_with(|| u64::MAX - random.below(2_000) as u64);
+    }
+    (numbers, one.name)
+}
+
+/// What a reader of changed numbers is fed: mostly a page that it expects, sometimes a wrong one.
+fn page_for(random: &mut Random, reader: Reader, written: &Written) -> (Vec<u8>, Room) {
+    let mut written = written.clone();
+    if !random.one_in(8) {
+        fit(&mut written.page, &reader);
+    }
+    if !random.one_in(3) {
+        return (ogg::encode(&written.page), room(random));
+    }
+    let wrong = fault(random, reader, &written);
+    (wrong.bytes, wrong.room)
+}
+
 #[test]
 fn any_numbers_are_the_reader_that_they_stand_for() {
     let mut random = Random::of_run(94);
-    let mut tally = Tally::default();
+    let (mut tally, mut moves) = (Tally::default(), Moves::default());
     let mut feeder = Feeder::started();
     for recorded in 0..RECORDINGS * times() {
         feeder.start();
         for written in recording(&mut random).pages {
             for _ in 0..3 {
-                let (one, other) = (random.pick(CHANGES), random.pick(CHANGES));
-                let mut numbers = feeder.numbers();
-                (one.apply)(&mut random, &mut numbers);
-                if random.one_in(3) {
-                    (other.apply)(&mut random, &mut numbers);
-                }
-                let mut page = written.page.clone();
-                if !random.one_in(8) {
-                    fit(&mut page, &Reader::from_numbers(&numbers));
-                }
-                let mut changed = feeder.clone();
-                changed.set(numbers);
-                let case = format!("recording {recorded}: {}, {numbers:?}", one.name);
-                let told = changed.feed(&ogg::encode(&page), room(&mut random), &case);
+                let (numbers, name) = changed(&mut random, feeder.numbers());
+                let reader = Reader::from_numbers(&numbers);
+                let (page, room) = page_for(&mut random, reader, &written);
+                let mut other = feeder.clone();
+                other.set(numbers);
+                let before = other.totals();
+                let case = format!("recording {recorded}: {name}, {numbers:?}");
+                let told = other.feed(&page, room, &case);
                 tally.add(told.err().unwrap_or(0));
+                moves.add(before, other.totals());
             }
             let bytes = ogg::encode(&written.page);
             let told = feeder.feed(&bytes, room(&mut random), "the page itself");
             assert!(told.is_ok(), "recording {recorded}");
         }
     }
-    tally.print("pages to any sixteen numbers");
-    let answers: Vec<u32> = (2..=19)
-        .filter(|number| ![3, 4, 12, 13].contains(number))
-        .collect();
-    tally.has_all(&answers);
+    let run = "pages to any sixteen numbers";
+    tally.finish_by(run, LEAST_FEEDINGS, &REFUSALS, LEAST_OF_EACH);
+    moves.finish("totals of any numbers", [LEAST_MOVED, LEAST_OF_EACH]);
 }
 
 #[test]

@@ -32,7 +32,7 @@ fn empty_frame() -> Packet {
 }
 
 /// Reads a packet of 960 samples, or an illegal one, as the last of one to three.
-fn assert_alone_and_behind_others(last: &Packet, expected: Result<u64, u32>, random: &mut Random) {
+fn assert_alone_and_after_others(last: &Packet, expected: Result<u64, u32>, random: &mut Random) {
     let other = &empty_frame();
     for packets in [&[last][..], &[other, last], &[other, other, last]] {
         let bytes = joined(packets, random);
@@ -156,10 +156,10 @@ fn a_frame_of_1275_bytes_is_read_and_not_one_byte_more() {
         ]
     };
     for last in &with_frame_of(LARGEST_FRAME) {
-        assert_alone_and_behind_others(last, Ok(960), &mut random);
+        assert_alone_and_after_others(last, Ok(960), &mut random);
     }
     for last in &with_frame_of(LARGEST_FRAME + 1) {
-        assert_alone_and_behind_others(last, ILLEGAL, &mut random);
+        assert_alone_and_after_others(last, ILLEGAL, &mut random);
     }
 }
 
@@ -168,7 +168,7 @@ fn frames_of_every_size_reach_the_end_and_not_past_it() {
     let mut random = Random::of_run(13);
     for size in 0..=LARGEST_FRAME {
         for packet in &one_of_each_code([size; 8]) {
-            assert_alone_and_behind_others(packet, Ok(960), &mut random);
+            assert_alone_and_after_others(packet, Ok(960), &mut random);
             assert_whole_only(&[packet, &empty_frame()], &mut random);
         }
         let last_empty = [
@@ -192,8 +192,8 @@ fn padding_of_every_length_reaches_the_end_and_not_past_it() {
             let padded = |size| packet(19, code, &[size]);
             assert_whole_only(&[&padded(0)], &mut random);
             assert_whole_only(&[&padded(0), &empty_frame()], &mut random);
-            assert_alone_and_behind_others(&padded(LARGEST_FRAME), Ok(960), &mut random);
-            assert_alone_and_behind_others(&padded(LARGEST_FRAME + 1), ILLEGAL, &mut random);
+            assert_alone_and_after_others(&padded(LARGEST_FRAME), Ok(960), &mut random);
+            assert_alone_and_after_others(&padded(LARGEST_FRAME + 1), ILLEGAL, &mut random);
         }
     }
 }

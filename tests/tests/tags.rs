@@ -128,7 +128,7 @@ fn known_gains_have_the_known_answers() {
 }
 
 #[test]
-fn headers_cut_short_at_every_place_are_refused_and_bytes_behind_them_ignored() {
+fn headers_cut_short_at_every_place_are_refused_and_bytes_after_them_ignored() {
     for tags in legal_set() {
         let bytes = encode(&tags);
         let mut tally = Tally::default();
@@ -177,9 +177,9 @@ fn counts_and_lengths_at_their_ends_are_read_as_the_rules_say() {
             next += 4 + comment.len();
         }
         // With and without bytes after it: a count of 0, and room for lengths of 16 bits.
-        for behind in [0, 4, 300, 70_000] {
+        for after in [0, 4, 300, 70_000] {
             let mut bytes = right.clone();
-            bytes.resize(right.len() + behind, 0);
+            bytes.resize(right.len() + after, 0);
             for &place in &places {
                 let value = field(&right, place);
                 for other in beside(value) {

@@ -155,12 +155,12 @@ fn reading_what_was_written_gives_the_same_vendor_and_comments() {
 }
 
 #[test]
-fn writing_what_was_read_gives_the_same_bytes_but_for_those_behind() {
+fn writing_what_was_read_gives_the_same_bytes_but_for_those_after() {
     let mut random = Random::of_run(85);
     for input in 0..ROUND_TRIPS {
         let right = encode(&tags(&mut random));
-        let behind = random.below(20);
-        let packet = [&right[..], &random.bytes(behind)].concat();
+        let after = random.below(20);
+        let packet = [&right[..], &random.bytes(after)].concat();
         let again = written(&JoinedTags::of(&found_tags(&packet)));
         assert_same_bytes(&again, &right, format_args!("packet {input}"));
     }

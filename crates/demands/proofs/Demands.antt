@@ -13,6 +13,8 @@ use Rattle.stream.proofs.Real.{readings-agree, opens-stream}
 use Rattle.stream.proofs.Theorem1.{stream-state}
 use Rattle.stream.proofs.Theorem3.{continued-says, demand-3}
 use Rattle.stream.proofs.Theorem4.{stream-counts}
+use Rattle.stream.proofs.Totals.{stream-totals}
+use Rattle.stream.proofs.OpenedTotals.{opened-stream-totals}
 use Rattle.demands.specs.Demands.{R, Demand1, Demand2, Demand3, Demands}
 use Rattle.demands.proofs.Cases.{cases-hold}
 
@@ -40,6 +42,8 @@ demand-three = record {
   began = continued-says R;
   opened = opened-unskipped R;
   counts = stream-counts R;
+  totals = stream-totals pageCrc;
+  openedTotals = opened-stream-totals pageCrc;
 }
 
 pub demands : Demands

@@ -14,13 +14,14 @@ use Rattle.tags_writer.specs.Statements as tagsWriter
 use Rattle.packet_reader.specs.Statements as opusPacket
 use Rattle.stream.specs.Page.{pageOf, continued}
 use Rattle.stream.specs.Readings.{Readings, readings}
-use Rattle.stream.specs.Feed.{Reader, start, openPartWay, feed, Taken}
+use Rattle.stream.specs.Feed.{Reader, start, openAt, openPartWay, feed, Taken}
 use Rattle.stream.specs.Lent.{Lent}
 use Rattle.stream.specs.Stream.{headOf, marks}
 use Rattle.stream.specs.Feedings.{Feeding, finally, carryLeft, HandedOn, Shown, stream, bytesOf, Marked, allOf, marked}
 use Rattle.stream.specs.Feedings.{RoomAtMarks, OthersRefused, toldAtMarks, joined}
 use Rattle.stream.specs.CarryBuffer.{CarryIs, FeedingNumber}
 use Rattle.stream.specs.Unskipped.{SkipsNothing}
+use Rattle.stream.specs.Totals.{Totals, OpenedTotals}
 use Rattle.stream.specs.Statements.{Keeps, Shows, Followed, Agree, AllOctets, Determined, Counted, audioIn, beganBefore, openedIn}
 use Rattle.demands.specs.Cases.{CasesHold}
 
@@ -61,7 +62,7 @@ pub record Demand2 : Type 0 where
 -- alone determine. A second reader can be opened with the stream's header record. At any audio page on, it tells what the full
 -- reader listed, but for a packet that began before, or 19 on a last page with no granule position before it. It skips nothing,
 -- so that it keeps all but what is trimmed. The kept counts of the full reader are those of the samples, one by one, and have
--- the closed form.
+-- the closed form. The totals that either reader keeps are those counts, and never wrap.
 pub record Demand3 : Type 0 where
   pub full : (F : List Feeding) → HandedOn R start [] F → Determined R (streamOf F) (finally R start F) (carryLeft R start [] F)
   pub opens : (F : List Feeding) → AllOctets F → HandedOn R start [] F → 0 < length (streamOf F)
@@ -73,6 +74,9 @@ pub record Demand3 : Type 0 where
   pub opened : (h : Head) (F : List Feeding) → SkipsNothing R h F
   pub counts : (F : List Feeding) → HandedOn R start [] F
       → Counted (streamOf F) (headOf R (bytesOf (streamOf F)) .preskip) (marks R (bytesOf (streamOf F)))
+  pub totals : (F : List Feeding) → AllOctets F → HandedOn R start [] F
+      → Totals (finally R start F .tally) (headOf R (bytesOf (streamOf F)) .preskip) (marks R (bytesOf (streamOf F)))
+  pub openedTotals : (h : Head) (F : List Feeding) → AllOctets F → OpenedTotals (stream R (openAt h) F) (finally R (openAt h) F)
 
 pub record Demands : Type 0 where
   pub one : Demand1

@@ -21,7 +21,7 @@ use Rattle.stream.specs.Readings.{Readings, readings}
 use Rattle.stream.specs.State.{isFirst}
 use Rattle.limits.specs.Limits.{packetMax, listMax}
 use Rattle.stream.specs.Lent.{Lent, isShort}
-use Rattle.stream.specs.Feed.{Reader, start, openPartWay, Taken, feed}
+use Rattle.stream.specs.Feed.{noTally, Reader, start, openPartWay, Taken, feed}
 use Rattle.stream.specs.Stream.{headOf, Mark, marks, initial, holes, keptCount, trimmedCount}
 use Rattle.stream.specs.Feedings.{Feeding, feedIn, readerAfter, HandedOn, stream, bytesOf, Marked, allOf, marked, RoomAtMarks}
 use Rattle.stream.specs.Feedings.{OthersRefused, toldAtMarks, hasPosition}
@@ -162,7 +162,7 @@ shiftedPage = page 1 3000 9 (90 ∷ []) (replicate 90 0)
 abbrev pub waiting : ℕ → Reader
 waiting next = record {
   core = record { phase = Audio; pending = Held 510; position = At 1000; serial = 7; next = next; streams = 1; preskip = 312 };
-  tally = record { skip = 0 };
+  tally = noTally;
 }
 
 pub record MeetsAlone : Type 0 where

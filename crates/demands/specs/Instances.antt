@@ -28,7 +28,7 @@ use Rattle.stream.specs.Entering.{JustPast, Entrance, Pair}
 abbrev pub within : Pending → Position → ℕ → ℕ → Reader
 within pending position next skip = record {
   core = record { phase = Audio; pending = pending; position = position; serial = 7; next = next; streams = 1; preskip = 312 };
-  tally = record { skip = skip };
+  tally = record { skip = skip; kept = 0; skipped = 0; trimmed = 0; hole = 0 };
 }
 
 -- ---- SameAnswers: carry buffers of different length that agree in 510 bytes alone, and readers that differ in what is to skip

@@ -29,7 +29,7 @@ use Rattle.stream.specs.Readings.{Readings}
 use Rattle.stream.specs.State.{Carried, State}
 use Rattle.stream.specs.Packets.{begun, audioPackets, lengthsOf}
 use Rattle.stream.specs.Rules.{packetChecks, timeChecks, startOn, nextOn}
-use Rattle.stream.specs.Feed.{Reader, carriedIn, pendingOf, view, Entry, entries, entriesOn, countsOn, skipOn, firstPiece, appended, carryAfter, listed, fedBy, readerOf, noCounts, FedIs, toldPage}
+use Rattle.stream.specs.Feed.{Reader, carriedIn, pendingOf, view, Entry, entries, entriesOn, countsOn, skipOn, tallyAfter, tallyOn, firstPiece, appended, carryAfter, listed, fedBy, readerOf, noCounts, FedIs, toldPage}
 use Rattle.stream.proofs.Lent.{same-lent}
 use Rattle.stream.proofs.Step.{gives≢refuses}
 use Rattle.stream.specs.declared.PageFed.the-variants.{Accepted, Refused}
@@ -90,11 +90,11 @@ module _ (R : Readings) (k : Core) (t : Tally) (h : PageHeader) (l body : Bytes)
           lent = same-lent (rw (late R k h (k .streams) ps lengths n e) c) refl refl refl;
         }
 
-    module _ (n d : ℕ) (w : Placed) (lens : List ℕ) {left : ℕ} {es ss ks : List ℕ} {later : Bytes} {after : Core} {counts : Counts} (next : Pending)
+    module _ (n d : ℕ) (w : Placed) (lens : List ℕ) {left : ℕ} {es ss ks : List ℕ} {later : Bytes} {after : Core} {tally : Tally} {counts : Counts} (next : Pending)
         (q : gives w ≡ decided (firstOf checks) (placing k h lengths)) (ds : take n lens ≡ lengths) (few : n ≤ length lens) (adds : d ≡ total (take n lens))
         (x : Lists left es ss ks (t .skip) (take n lens) (entries (t .skip) (isLastPage (h .flags)) (h .granule) (w .from) (take n lens)) (m .ends) (m .lengths) (m .kept))
         (c : later ≡ carryAfter none state page (m .carry)) (a : after ≡ nextCore k h next (At (h .granule))) (p : pendingOf (begun r) ≡ next)
-        (s : counts ≡ countsBy n d w (t .skip) (isLastPage (h .flags)) (h .granule)) where
+        (s : counts ≡ countsBy n d w (t .skip) (isLastPage (h .flags)) (h .granule)) (y : tally ≡ tallyAfter t left counts) where
       sums : d ≡ total lengths
       sums = adds ∙ ap total ds
 
@@ -114,17 +114,17 @@ module _ (R : Readings) (k : Core) (t : Tally) (h : PageHeader) (l body : Bytes)
           s ∙ ap (λ (i : ℕ). countsBy i d w (t .skip) (isLastPage (h .flags)) (h .granule)) count
           ∙ ap₂ (λ (i : ℕ) (z : Placed). countsBy (length lengths) i z (t .skip) (isLastPage (h .flags)) (h .granule)) sums e
 
-      pub accepted : FedIs (onPast11 R reader m state page (completing ps r)) (toldPage (Accepted after (record { skip = left }) counts)) (lentOf later es ss ks)
-      unfolding audioPackets timeChecks lengthsOf last nextOn skipOn
+      pub accepted : FedIs (onPast11 R reader m state page (completing ps r)) (toldPage (Accepted after tally counts)) (lentOf later es ss ks)
+      unfolding audioPackets timeChecks lengthsOf last nextOn skipOn tallyOn
       accepted = by (firstOf checks) q
         where
           by : (v : Option Refusal) → gives w ≡ decided v (placing k h lengths)
-              → FedIs (fedBy v R reader m state page (completing ps r)) (toldPage (Accepted after (record { skip = left }) counts)) (lentOf later es ss ks)
+              → FedIs (fedBy v R reader m state page (completing ps r)) (toldPage (Accepted after tally counts)) (lentOf later es ss ks)
           by none q =
               let e : w ≡ placing k h lengths = same-gives q in
               record {
                 told = same-told (a ∙ ap (λ (z : Pending). nextCore k h z (At (h .granule))) (sym p))
-                    (ap (λ (z : ℕ). record { skip = z }) (x .skips ∙ ap (λ (z : List ℕ). t .skip - total z) ds)) (as-counted e);
+                    (y ∙ ap₂ (tallyAfter t) (x .skips ∙ ap (λ (z : List ℕ). t .skip - total z) ds) (as-counted e)) (as-counted e);
                 lent = same-lent c (as-listed (λ (e : Entry). e .end) (m .ends) e (x .ended))
                     (as-listed (λ (e : Entry). e .samples) (m .lengths) e (x .sized)) (as-listed (λ (e : Entry). e .kept) (m .kept) e (x .keeps));
               }
@@ -133,9 +133,9 @@ module _ (R : Readings) (k : Core) (t : Tally) (h : PageHeader) (l body : Bytes)
   -- ---- where none does
 
   pub piece-fed : {later : Bytes} {after : Core} (left : Carried) (next : Pending) → later ≡ carryAfter none state page (m .carry) → after ≡ nextCore k h next (k .position)
-      → pendingOf left ≡ next → FedIs (onPast11 R reader m state page (going left)) (toldPage (Accepted after t noCounts)) (lentOf later (m .ends) (m .lengths) (m .kept))
-  unfolding audioPackets packetChecks timeChecks firstOf lengthsOf last nextOn skipOn countsOn entriesOn entries total keptOf skippedOf trimmedOf tally
+      → pendingOf left ≡ next → FedIs (onPast11 R reader m state page (going left)) (toldPage (Accepted after (tallyAfter t (t .skip) noCounts) noCounts)) (lentOf later (m .ends) (m .lengths) (m .kept))
+  unfolding audioPackets packetChecks timeChecks firstOf lengthsOf last nextOn skipOn tallyOn countsOn entriesOn entries total keptOf skippedOf trimmedOf tally
   piece-fed left next c a p = record {
-    told = same-told (a ∙ ap (λ (z : Pending). nextCore k h z (k .position)) (sym p)) (ap (λ (z : ℕ). record { skip = z }) (omega arith)) refl;
+    told = same-told (a ∙ ap (λ (z : Pending). nextCore k h z (k .position)) (sym p)) (ap (λ (z : ℕ). tallyAfter t z noCounts) (omega arith)) refl;
     lent = same-lent c refl refl refl;
   }

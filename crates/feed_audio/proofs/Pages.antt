@@ -21,7 +21,7 @@ use Rattle.stream.specs.Lent.{Lent, lentOf}
 use Rattle.stream.specs.Readings.{readings}
 use Rattle.stream.specs.State.{Carried}
 use Rattle.stream.specs.Packets.{Seen, join, seen}
-use Rattle.stream.specs.Feed.{carriedIn, view, entries, firstPiece, appended, withRest, carryAfter, readerOf, noCounts, FedIs, Taken, toldPage}
+use Rattle.stream.specs.Feed.{carriedIn, view, entries, tallyAfter, firstPiece, appended, withRest, carryAfter, readerOf, noCounts, FedIs, Taken, toldPage}
 use Rattle.stream.specs.declared.PageFed.the-variants.{Accepted, Refused}
 use Rattle.feed_audio.specs.declared.packets.Piece.{Piece}
 use Rattle.feed_audio.specs.declared.times.Timed.the-variants.{Packets, Refused as Untimed}
@@ -96,14 +96,14 @@ module _ (crc : Bytes → ℕ) (k : Core) (t : Tally) (h : PageHeader) (l body c
         late-by (completing packets (restOf tail body)) (s .fitting .audio) sees
         (refused (readings crc) k t h l body lent packets (restOf tail body) why told appends)
 
-    pub completing-accepted : {lens : List ℕ} {i d skip : ℕ} {w : Placed} {es ss ks later : List ℕ} {after : Core} {counts : Counts}
+    pub completing-accepted : {lens : List ℕ} {i d skip : ℕ} {w : Placed} {es ss ks later : List ℕ} {after : Core} {tally : Tally} {counts : Counts}
         → Times (Packets i d w) lens k h (measured (countOf (k .streams)) (packetsBy (k .pending) (first .values) (first .bytes) l body now))
         → Lists skip es ss ks (t .skip) (take i lens) (entries (t .skip) (isLastPage (h .flags)) (h .granule) (w .from) (take i lens)) ends lengths kept
         → later ≡ withRest (restOf left body) now → counts ≡ countsBy i d w (t .skip) (isLastPage (h .flags)) (h .granule)
-        → after ≡ nextCore k h (begunBy left) (At (h .granule))
-        → FedIs (fedPast11 (readings crc) (readerOf k t) lent (pageWith h l body)) (toldPage (Accepted after (record { skip = skip }) counts)) (lentOf later es ss ks)
+        → after ≡ nextCore k h (begunBy left) (At (h .granule)) → tally ≡ tallyAfter t skip counts
+        → FedIs (fedPast11 (readings crc) (readerOf k t) lent (pageWith h l body)) (toldPage (Accepted after tally counts)) (lentOf later es ss ks)
     unfolding whole rest carryAfter
-    completing-accepted {lens} {i} {d} {skip} {w} {es} {ss} {ks} {later} {after} {counts} m x c z a =
+    completing-accepted {lens} {i} {d} {skip} {w} {es} {ss} {ks} {later} {after} {tally} {counts} m x c z a y =
         let told = m .tells ∙ ap (λ (ps : List Bytes). timedBy (measured (countOf (k .streams)) ps) k h) packets-are ∙ judges crc k h few packets in
         let ds = lengths-are crc (k .streams) few packets (take i lens) (m .runs .lengths ∙ ap (measured (countOf (k .streams))) packets-are) in
         let left-is : left ≡ tail = s .scanned .tail in
@@ -112,14 +112,14 @@ module _ (crc : Bytes → ℕ) (k : Core) (t : Tally) (h : PageHeader) (l body c
         c ∙ ap₂ withRest (ap (λ (n : ℕ). restOf n body) left-is ∙ sym (rest-ended l body carry (s .fitting .sums) splits (k .pending))) appends in
         late-by (completing packets (restOf tail body)) (s .fitting .audio) sees
         (accepted (readings crc) k t h l body lent packets (restOf tail body) i d w lens (begunBy left) told ds (m .runs .few) (m .runs .adds) x later-is a
-        (begun-rest tail body within ∙ ap begunBy (sym left-is)) z)
+        (begun-rest tail body within ∙ ap begunBy (sym left-is)) z y)
 
   -- ---- where none does
 
   pub piece-page : (bytes left : ℕ) {now later : List ℕ} {after : Core} → NoneCompletes k bytes left l body carry ends lengths kept
       → now ≡ appended Audio carried (take bytes body) carry → later ≡ withRest (restOf (freshBy (k .pending) left) body) now
       → after ≡ nextCore k h (stillBy (k .pending) left) (k .position)
-      → FedIs (fedPast11 (readings crc) (readerOf k t) lent (pageWith h l body)) (toldPage (Accepted after t noCounts)) (lentOf later ends lengths kept)
+      → FedIs (fedPast11 (readings crc) (readerOf k t) lent (pageWith h l body)) (toldPage (Accepted after (tallyAfter t (t .skip) noCounts) noCounts)) (lentOf later ends lengths kept)
   unfolding whole rest carryAfter
   piece-page bytes left {now} {later} {after} s n c a =
       let o : Open 0 l (firstFrom 0 l) = ways 0 l .1 (s .undone) in

@@ -77,7 +77,7 @@ fn feed_completing(
             carried::keep_rest(rest, body, carry);
             let counts = times::counts_of(count, d, place, skip, last, h.granule);
             let next = carried::next_core(core, h, carried::begun(rest), Position::At(h.granule));
-            PageFed::Accepted(next, Tally { skip: left }, counts)
+            PageFed::Accepted(next, feed_next::next_tally(tally, left, counts), counts)
         }
     }
 }
@@ -104,7 +104,12 @@ fn feed_piece(
     carried::append(pending, bytes, body, carry);
     carried::keep_rest(carried::fresh(pending, rest), body, carry);
     let next = carried::next_core(core, h, carried::still_pending(pending, rest), position);
-    PageFed::Accepted(next, tally, feed_next::no_counts())
+    let counts = feed_next::no_counts();
+    PageFed::Accepted(
+        next,
+        feed_next::next_tally(tally, tally.skip, counts),
+        counts,
+    )
 }
 
 // Feeds a page that fits: 9, 11, and what follows.

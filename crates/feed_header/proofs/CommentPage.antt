@@ -33,7 +33,7 @@ use Rattle.limits.specs.Limits.{packetMax}
 use Rattle.stream.specs.Lent.{Lent, withCarry}
 use Rattle.stream.specs.Shape.{shapeOf, isOther, wrongShape}
 use Rattle.stream.specs.Rules.{firstPacket, lacingChecks, nextOn}
-use Rattle.stream.specs.Feed.{carriedIn, pendingOf, coreOf, view, skipOn, firstPiece, appended, newRest, withRest, carryAfter, noCounts, readerOf, FedIs, toldPage}
+use Rattle.stream.specs.Feed.{carriedIn, pendingOf, coreOf, view, skipOn, tallyAfter, firstPiece, appended, newRest, withRest, carryAfter, noCounts, readerOf, FedIs, toldPage}
 use Rattle.stream.specs.Feedings.{heldOf}
 use Rattle.stream.proofs.Pieces.{nonEmpty, Fits, piece-fits}
 use Rattle.stream.proofs.Carry.{fresh, joined-there}
@@ -189,7 +189,7 @@ module _ (crc : Bytes → ℕ) (core : Core) (tally : Tally) (c : Bytes) (lists 
         is-packet = part ∙ (rw (size, written) (packet-is room))
 
         pub last-accepted : {k : ℕ} → gives k ≡ retold commentCount (readTags b)
-            → FedIs (headerOn (readings crc) (readerOf core tally) m (pageWith h lacing body)) (toldPage (Accepted (coreAfter h Audio Nothing (core .position) (core .streams) (core .preskip)) tally noCounts)) (withCarry lists d)
+            → FedIs (headerOn (readings crc) (readerOf core tally) m (pageWith h lacing body)) (toldPage (Accepted (coreAfter h Audio Nothing (core .position) (core .streams) (core .preskip)) (tallyAfter tally (tally .skip) noCounts) noCounts)) (withCarry lists d)
         unfolding headerFed readTags
         last-accepted {k} r =
             accepted R t p (seen t p) (record { core = core; tally = tally }) m inside (firstOf (checks9to14 R t p (seen t p))) _ _ d
@@ -226,7 +226,7 @@ module _ (crc : Bytes → ℕ) (core : Core) (tally : Tally) (c : Bytes) (lists 
       earlier-next = rw (earlier-done, earlier-left, comment)
 
       pub earlier-accepted : {d : Bytes} → packetMax ≤ length c → d ≡ appended Comment (t .carried) body c
-          → FedIs (headerOn (readings crc) (readerOf core tally) m (pageWith h lacing body)) (toldPage (Accepted (coreAfter h Comment (longer (core .pending) (length body)) (core .position) (core .streams) (core .preskip)) tally noCounts)) (withCarry lists d)
+          → FedIs (headerOn (readings crc) (readerOf core tally) m (pageWith h lacing body)) (toldPage (Accepted (coreAfter h Comment (longer (core .pending) (length body)) (core .position) (core .streams) (core .preskip)) (tallyAfter tally (tally .skip) noCounts) noCounts)) (withCarry lists d)
       unfolding headerFed carryAfter
       earlier-accepted {d} room written =
           accepted R t p (seen t p) (record { core = core; tally = tally }) m inside (firstOf (checks9to14 R t p (seen t p))) _ _ d earlier-found earlier-next skip-stays

@@ -28,7 +28,7 @@ use Rattle.stream.specs.Readings.{Readings, readings}
 use Rattle.stream.specs.State.{nothing, State, inHeaders}
 use Rattle.stream.specs.Packets.{join, seen, isLong}
 use Rattle.stream.specs.Rules.{lacingChecks, nextOn}
-use Rattle.stream.specs.Feed.{coreOf, view, skipOn, carryAfter, noCounts, readerOf, FedIs, toldPage}
+use Rattle.stream.specs.Feed.{coreOf, view, skipOn, tallyAfter, carryAfter, noCounts, readerOf, FedIs, toldPage}
 use Rattle.stream.specs.Lent.{Lent}
 use Rattle.stream.specs.Shape.{shapeOf, wrongShape}
 use Rattle.stream.specs.declared.Shape.the-variants.{Ends}
@@ -99,7 +99,7 @@ module _ (crc : Bytes → ℕ) (core : Core) (tally : Tally) (m : Lent) (h : Pag
         by false false k = let z : _≡_ {A = ℕ} 0 1 = cc in absurd (omega arith)
 
     pub head-accepted : (head : Head) → readHead body ≡ gives head
-        → FedIs (headerOn (readings crc) (readerOf core tally) m (pageWith h lacing body)) (toldPage (Accepted (coreAfter h Comment Nothing (core .position) (head .streams) (head .preskip)) (record { skip = head .preskip }) noCounts)) m
+        → FedIs (headerOn (readings crc) (readerOf core tally) m (pageWith h lacing body)) (toldPage (Accepted (coreAfter h Comment Nothing (core .position) (head .streams) (head .preskip)) (tallyAfter tally (head .preskip) noCounts) noCounts)) m
     unfolding headerFed readHead
     head-accepted head r =
         let k = no-refusal (firstOf (readChecks body)) (headOf body) head r in

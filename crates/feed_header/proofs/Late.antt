@@ -23,7 +23,7 @@ use Rattle.stream.specs.State.{State, inHeaders}
 use Rattle.stream.specs.Packets.{Seen, isLong, audioPackets, lengthsOf}
 use Rattle.stream.specs.Rules.{granuleMost, lacingChecks, headerChecks, nextOn}
 use Rattle.stream.specs.Lent.{Lent, withCarry}
-use Rattle.stream.specs.Feed.{Reader as Known, coreOf, entries, entriesOn, countsOn, skipOn, firstPiece, appended, isLate, carryAfter, fedBy, noCounts, FedIs, toldPage}
+use Rattle.stream.specs.Feed.{Reader as Known, coreOf, entries, entriesOn, countsOn, skipOn, tallyAfter, tallyOn, firstPiece, appended, isLate, carryAfter, fedBy, noCounts, FedIs, toldPage}
 use Rattle.stream.specs.declared.PageFed.the-variants.{Accepted, Refused}
 use Rattle.stream.proofs.Lent.{same-lent}
 use Rattle.feed_header.specs.Header.{checks9to14}
@@ -89,8 +89,9 @@ module _ (R : Readings) (t : State) (p : Page) (x : Seen) where
       unfolding entriesOn entries
       no-entries skip = rw no-lengths
 
-      pub accepted : (v : Option Refusal) (core : Core) (y : Tally) (carry : Bytes) → v ≡ none → core ≡ coreOf (nextOn R t p x)
-          → y .skip ≡ skipOn R (r .tally .skip) t p x → carry ≡ carryAfter none t p (m .carry)
-          → FedIs (fedBy v R r m t p x) (toldPage (Accepted core y noCounts)) (withCarry m carry)
-      accepted v core y carry e k s c =
+      pub accepted : (v : Option Refusal) (core : Core) (skip : ℕ) (carry : Bytes) → v ≡ none → core ≡ coreOf (nextOn R t p x)
+          → skip ≡ skipOn R (r .tally .skip) t p x → carry ≡ carryAfter none t p (m .carry)
+          → FedIs (fedBy v R r m t p x) (toldPage (Accepted core (tallyAfter (r .tally) skip noCounts) noCounts)) (withCarry m carry)
+      unfolding tallyOn
+      accepted v core skip carry e k s c =
           rw (e, no-counts (r .tally .skip), no-entries (r .tally .skip), ← k, ← s) (record { told = refl; lent = same-lent c refl refl refl })

@@ -3,7 +3,6 @@
 ghost use mathlib.Core.Path.{_≡_};
 ghost use Prim.Native.Nat.{ℕ};
 ghost use Rattle.octets.specs.Octets.{Bytes};
-ghost use Rattle.stream.specs.declared.Tally.{Tally as Counting};
 ghost use Rattle.stream.specs.Lent.{Lent, withCarry};
 ghost use Rattle.stream.specs.Page.{pageWith};
 ghost use Rattle.stream.specs.Readings.{readings};
@@ -50,9 +49,9 @@ fn check_lacing(core: Core, h: PageHeader, lacing: &[u8], shape: Shape) -> Check
 }
 
 // The page of the identification header. Nothing is written to lent memory.
-fn feed_head(core: Core, h: PageHeader, lacing: &[u8], body: &[u8]) -> PageFed
+fn feed_head(core: Core, tally: Tally, h: PageHeader, lacing: &[u8], body: &[u8]) -> PageFed
     requires { ⌜ HeadDue core (now lacing) (now body) ⌝ }
-    ensures { λ r. ⌜ ((crc : Bytes → ℕ) (m : Lent) (tally : Counting) →
+    ensures { λ r. ⌜ ((crc : Bytes → ℕ) (m : Lent) →
         FedIs (headerOn (readings crc) (readerOf core tally) m (pageWith h (now (lacing .entry)) (now (body .entry))))
         (toldPage r) m) ⌝ }
 {
@@ -73,7 +72,9 @@ fn feed_head(core: Core, h: PageHeader, lacing: &[u8], body: &[u8]) -> PageFed
                         head.streams,
                         head.preskip,
                     );
-                    PageFed::Accepted(core, Tally { skip: head.preskip }, feed_next::no_counts())
+                    let counts = feed_next::no_counts();
+                    let after = feed_next::next_tally(tally, head.preskip, counts);
+                    PageFed::Accepted(core, after, counts)
                 }
                 Verdict::Refused(why) => PageFed::Refused(why),
             }
@@ -126,7 +127,9 @@ fn feed_comment(
                     streams,
                     preskip,
                 );
-                return PageFed::Accepted(core, tally, feed_next::no_counts());
+                let counts = feed_next::no_counts();
+                let after = feed_next::next_tally(tally, tally.skip, counts);
+                return PageFed::Accepted(core, after, counts);
             }
             match tags_reader::read_tags(octets::part_of(carry, 0, feed_memory::held_in(left))) {
                 TagsRead::Count(_) => {
@@ -138,7 +141,9 @@ fn feed_comment(
                         streams,
                         preskip,
                     );
-                    PageFed::Accepted(core, tally, feed_next::no_counts())
+                    let counts = feed_next::no_counts();
+                    let after = feed_next::next_tally(tally, tally.skip, counts);
+                    PageFed::Accepted(core, after, counts)
                 }
                 TagsRead::Refused(why) => PageFed::Refused(why),
             }
@@ -200,7 +205,7 @@ pub fn feed_header(
         return HeaderFed::NotHeader;
     }
     if feed_phase::is_first(phase) {
-        return HeaderFed::Page(feed_head(core, h, lacing, body));
+        return HeaderFed::Page(feed_head(core, tally, h, lacing, body));
     }
     HeaderFed::Page(feed_comment(core, tally, h, lacing, body, carry))
 }

@@ -1,6 +1,6 @@
-// What follows an accepted page: the core that expects the next one, and the record of a page that lists nothing.
+// What follows an accepted page: the core that expects the next one, the totals, and the record of a page that lists nothing.
 ghost use mathlib.Core.Path.{_≡_};
-ghost use Rattle.stream.specs.Feed.{noCounts};
+ghost use Rattle.stream.specs.Feed.{noCounts, tallyAfter};
 ghost use Rattle.feed_next.specs.Next.{coreAfter};
 use granule::Position;
 use page_layout::PageHeader;
@@ -8,6 +8,7 @@ use stream::Core;
 use stream::Counts;
 use stream::Pending;
 use stream::Phase;
+use stream::Tally;
 
 // The core after a page with the fields `h`: its serial, and the sequence number that is then due (RULES.md, 7). It refuses
 // nothing. Example: after sequence number 4 number 5 is due, and after 4294967295 number 0.
@@ -43,5 +44,20 @@ pub fn no_counts() -> Counts
         skipped: 0,
         trimmed: 0,
         hole: 0,
+    }
+}
+
+// The tally after an accepted page with this record, `skip` samples being still to skip: each count is added to its total,
+// modulo 2^64 (RULES.md, 8). It refuses nothing.
+// Example: a tally of 960 samples kept and a record of 648 give one of 1608.
+pub fn next_tally(tally: Tally, skip: u16, counts: Counts) -> Tally
+    ensures { λ r. ⌜ r ≡ tallyAfter tally skip counts ⌝ }
+{
+    Tally {
+        skip,
+        kept: std::num::wrapping_add_u64(tally.kept, counts.kept),
+        skipped: std::num::wrapping_add_u64(tally.skipped, counts.skipped),
+        trimmed: std::num::wrapping_add_u64(tally.trimmed, counts.trimmed),
+        hole: std::num::wrapping_add_u64(tally.hole, counts.hole),
     }
 }

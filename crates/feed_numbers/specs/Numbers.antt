@@ -39,13 +39,13 @@ granuleIn Joined = 0
 granuleIn (At g) = g
 
 -- the sixteen numbers: phase, unfinished packet, held bytes, position, granule, serial, sequence due, streams, pre-skip, samples
--- still to skip, and six zeros
+-- still to skip, the totals of kept, skipped and trimmed samples and of holes, and two zeros
 unfoldable pub numbersOf : Reader → List ℕ
 numbersOf r =
     phaseNumber (r .core .phase) ∷ pendingNumber (r .core .pending) ∷ heldOf (r .core .pending)
     ∷ positionNumber (r .core .position) ∷ granuleIn (r .core .position) ∷ r .core .serial ∷ r .core .next
     ∷ r .core .streams ∷ r .core .preskip ∷ r .tally .skip
-    ∷ 0 ∷ 0 ∷ 0 ∷ 0 ∷ 0 ∷ 0 ∷ []
+    ∷ r .tally .kept ∷ r .tally .skipped ∷ r .tally .trimmed ∷ r .tally .hole ∷ 0 ∷ 0 ∷ []
 
 -- ---- and back
 
@@ -69,7 +69,13 @@ readerFrom l = record {
     streams = getD l 7 0 % 256;
     preskip = getD l 8 0 % 65536;
   };
-  tally = record { skip = getD l 9 0 % 65536 };
+  tally = record {
+    skip = getD l 9 0 % 65536;
+    kept = getD l 10 0;
+    skipped = getD l 11 0;
+    trimmed = getD l 12 0;
+    hole = getD l 13 0;
+  };
 }
 
 -- numbers that were made of a reader, and represent it

@@ -53,7 +53,7 @@ fn granule_in(position: Position) -> u64
 }
 
 // The numbers of a reader with this core and this tally (RULES.md, 14). It refuses nothing.
-// Example: those of `feed_start::start_core()` with 0 samples to skip are sixteen zeros.
+// Example: those of `feed_start::start_core()` and `feed_start::no_tally()` are sixteen zeros.
 pub fn numbers_of(core: Core, tally: Tally) -> [u64; 16]
     ensures { λ r. ⌜ StandFor r (readerOf core tally) ⌝ }
 {
@@ -71,10 +71,10 @@ pub fn numbers_of(core: Core, tally: Tally) -> [u64; 16]
         core.streams as u64,
         core.preskip as u64,
         tally.skip as u64,
-        0,
-        0,
-        0,
-        0,
+        tally.kept,
+        tally.skipped,
+        tally.trimmed,
+        tally.hole,
         0,
         0,
     ]
@@ -145,5 +145,9 @@ pub fn tally_from(state: &[u64; 16]) -> Tally
 {
     Tally {
         skip: (state[9] % 65536) as u16,
+        kept: state[10],
+        skipped: state[11],
+        trimmed: state[12],
+        hole: state[13],
     }
 }

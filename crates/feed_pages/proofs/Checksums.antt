@@ -15,7 +15,7 @@ use Rattle.stream.specs.Readings.{readings}
 use Rattle.stream.specs.State.{State, expecting}
 use Rattle.stream.specs.Packets.{Seen, seen, lengthsOf}
 use Rattle.stream.specs.Rules.{packetChecks, timeChecks, checksOn, startOn, nextOn}
-use Rattle.stream.specs.Feed.{Reader, view, entriesOn, countsOn, skipOn, fedBy, feed}
+use Rattle.stream.specs.Feed.{Reader, view, entriesOn, countsOn, skipOn, tallyOn, fedBy, feed}
 use Rattle.stream.specs.Lent.{Lent, isShort}
 use Rattle.page_end.specs.End.{endAt}
 use Rattle.feed_pages.specs.Run.{isFull, past, Reached, Turn, goes, stops, full, fedTo, turnTo, turn, follow, runs, started, feedPages}
@@ -27,7 +27,7 @@ module _ (c d : Bytes → ℕ) where
   same-packets n (b ∷ bs) = rw (same-packets n bs)
 
   same-fed : (v : Option Refusal) (r : Reader) (m : Lent) (t : State) (p : Page) (x : Seen) → fedBy v (readings c) r m t p x ≡ fedBy v (readings d) r m t p x
-  unfolding readings nextOn skipOn countsOn entriesOn startOn lengthsOf
+  unfolding readings nextOn skipOn tallyOn countsOn entriesOn startOn lengthsOf
   same-fed none r m t p x = refl
   same-fed (some n) r m t p x = refl
 

@@ -19,7 +19,7 @@ use Rattle.stream.specs.Lent.{Lent, isShort}
 use Rattle.stream.specs.Feedings.{Feeding, feedIn, readerBy, readerAfter, finally, leftIn, carryLeft, HandedOn, Shown, showAs, stream, bytesOf}
 use Rattle.stream.specs.Statements.{HasFirst, Shows}
 use Rattle.stream.proofs.Step.{feeds-short}
-use Rattle.feed_pages.specs.Run.{isFull, past, whole, Reached, added, Why, refused, cut, full, Turn, goes, stops, after, fedTo, turnTo, turn, Ended, follow, runs, started, feedPages, Inside}
+use Rattle.feed_pages.specs.Run.{isFull, past, whole, Reached, Why, refused, cut, full, Turn, goes, stops, after, fedTo, turnTo, turn, Ended, follow, runs, started, feedPages, Inside}
 use Rattle.feed_pages.specs.Feedings.{feedingTo, laterOf, feedingsTo, feedingsOf, runFeedings, refusalIn, numbersOf, lastNumber, together, entriesOf}
 use Rattle.feed_pages.specs.Statements.{RunIs, RunFeeds}
 use Rattle.feed_pages.proofs.Turns.{shows, after-goes}
@@ -141,7 +141,6 @@ module _ (R : Readings) (b : Bytes) (o : Octets b) (a : Reached) (m : Lent) (fit
         bytes = e;
         pages = a .pages + 1;
         packets = a .packets + t .counts .packets;
-        sums = added (a .sums) (t .counts);
       }
 
       abbrev x : Shown

@@ -11,7 +11,7 @@ use Rattle.feed_pages.specs.declared.Turn.the-variants.{Goes, Stops}
 use Rattle.feed_pages.specs.Run.{Reached, Why, refused, cut, full, Turn as Outcome, goes, stops, Ended}
 
 abbrev pub reached : Progress → Reached
-reached p = record { reader = knownAs (p .reader); bytes = p .bytes; pages = p .pages; packets = p .packets; sums = p .sums }
+reached p = record { reader = knownAs (p .reader); bytes = p .bytes; pages = p .pages; packets = p .packets }
 
 abbrev pub toldStop : Stop → Why
 toldStop (Refused why) = refused (numberOf why)

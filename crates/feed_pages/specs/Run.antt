@@ -1,7 +1,7 @@
 -- The pages of a buffer fed one by one, each with the parts of the three lists past the places already filled. A run stops at a
 -- refusal, at a page that the buffer's end cuts, or where fewer than 255 places are left (RULES.md, 7, for each page). Assumes
 -- nothing.
-use Prim.Native.Nat.{ℕ, zero, suc, _+_, _-_, _%_, _^_, _≤_}
+use Prim.Native.Nat.{ℕ, zero, suc, _+_, _-_, _≤_}
 use mathlib.Core.Bool.{Bool}
 use mathlib.Core.List.{_++_}
 use mathlib.Core.Option.{Option, none, some}
@@ -10,11 +10,9 @@ use Rattle.octets.specs.Pick.{pick}
 use Rattle.octets.specs.Octets.{Bytes}
 use Rattle.refusal.specs.Told.{Told, gives, refuses}
 use Rattle.page_end.specs.End.{endAt}
-use Rattle.stream.specs.declared.Counts.{Counts}
 use Rattle.stream.specs.Readings.{Readings}
 use Rattle.stream.specs.Feed.{Reader, Taken, Fed, feed}
 use Rattle.stream.specs.Lent.{Lent, shortLists}
-use Rattle.feed_pages.specs.declared.Sums.{Sums}
 
 -- ---- the lent memory
 
@@ -37,23 +35,12 @@ whole n m e = record {
 
 -- ---- one page
 
--- how far a run has come: the bytes and the number of the pages accepted, the places filled, and the pages' records added up
+-- how far a run has come: the bytes and the number of the pages accepted, and the places filled
 pub record Reached : Type 0 where
   pub reader : Reader
   pub bytes : ℕ
   pub pages : ℕ
   pub packets : ℕ
-  pub sums : Sums
-
--- modulo 2^64
-abbrev pub added : Sums → Counts → Sums
-added s c = record {
-  samples = (s .samples + c .samples) % 2 ^ 64;
-  kept = (s .kept + c .kept) % 2 ^ 64;
-  skipped = (s .skipped + c .skipped) % 2 ^ 64;
-  trimmed = (s .trimmed + c .trimmed) % 2 ^ 64;
-  hole = (s .hole + c .hole) % 2 ^ 64;
-}
 
 pub data Why : Type 0 where
   refused : ℕ → Why
@@ -70,7 +57,6 @@ after a e (gives t) m = goes (record {
   bytes = e;
   pages = a .pages + 1;
   packets = a .packets + t .counts .packets;
-  sums = added (a .sums) (t .counts);
 }) m
 after a e (refuses n) m = stops (refused n) m
 
@@ -101,13 +87,7 @@ runs zero R b a m = record { reached = a; why = cut; lent = m }
 runs (suc n) R b a m = follow (runs n R b) a (turn R b a m)
 
 abbrev pub started : Reader → Reached
-started r = record {
-  reader = r;
-  bytes = 0;
-  pages = 0;
-  packets = 0;
-  sums = record { samples = 0; kept = 0; skipped = 0; trimmed = 0; hole = 0 };
-}
+started r = record { reader = r; bytes = 0; pages = 0; packets = 0 }
 
 -- a page has a byte at least, so that there are no more pages than bytes
 unfoldable pub feedPages : Readings → Reader → Lent → Bytes → Ended

@@ -6,22 +6,12 @@ ghost use Rattle.page_crc.specs.Sliced.{pageSliced};
 ghost use Rattle.stream.specs.Readings.{readings};
 ghost use Rattle.stream.specs.Lent.{lentOf, atEntry, atExit};
 ghost use Rattle.reader.specs.Answers.{knownAs};
-ghost use Rattle.feed_pages.specs.Run.{added, Inside, turn as turnBy, feedPages};
+ghost use Rattle.feed_pages.specs.Run.{Inside, turn as turnBy, feedPages};
 ghost use Rattle.feed_pages.specs.Answers.{reached, toldTurn, toldRun};
 use page_end::End;
 use reader::Fed;
 use reader::Reader;
 use refusal::Refusal;
-use stream::Counts;
-
-// The records of the pages added up, each sum modulo 2^64.
-pub struct Sums {
-    pub samples: u64,
-    pub kept: u64,
-    pub skipped: u64,
-    pub trimmed: u64,
-    pub hole: u64,
-}
 
 // How far a run has come: the reader after the pages accepted, their bytes, how many they are, and how many places of each
 // list they filled.
@@ -30,7 +20,6 @@ pub struct Progress {
     pub bytes: usize,
     pub pages: usize,
     pub packets: usize,
-    pub sums: Sums,
 }
 
 // Why a run stops.
@@ -53,18 +42,6 @@ enum Turn {
     Stops(Stop),
 }
 
-fn added_to(s: Sums, c: Counts) -> Sums
-    ensures { λ r. ⌜ r ≡ added s c ⌝ }
-{
-    Sums {
-        samples: std::num::wrapping_add_u64(s.samples, c.samples),
-        kept: std::num::wrapping_add_u64(s.kept, c.kept),
-        skipped: std::num::wrapping_add_u64(s.skipped, c.skipped),
-        trimmed: std::num::wrapping_add_u64(s.trimmed, c.trimmed),
-        hole: std::num::wrapping_add_u64(s.hole, c.hole),
-    }
-}
-
 // Feeds the next page.
 fn feed_next(
     tables: &[u32; 4096],
@@ -83,7 +60,6 @@ fn feed_next(
     let at = p.bytes;
     let n = p.packets;
     let reader = p.reader;
-    let sums = p.sums;
     if feed_memory::are_lists_short(ends.len() - n, lengths.len() - n, kept.len() - n) {
         return Turn::Stops(Stop::Full);
     }
@@ -103,7 +79,6 @@ fn feed_next(
                 bytes: end,
                 pages: p.pages + 1,
                 packets: n + counts.packets as usize,
-                sums: added_to(sums, counts),
             }),
             Fed::Refused(why) => Turn::Stops(Stop::Refused(why)),
         },
@@ -129,13 +104,6 @@ fn run(
         bytes: 0,
         pages: 0,
         packets: 0,
-        sums: Sums {
-            samples: 0,
-            kept: 0,
-            skipped: 0,
-            trimmed: 0,
-            hole: 0,
-        },
     };
     loop {
         match feed_next(tables, progress, buffer, carry, ends, lengths, kept) {

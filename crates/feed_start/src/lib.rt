@@ -1,6 +1,6 @@
 // The core and tally that a reader of a stream begins with: of a stream's first page, or opened part way.
 ghost use mathlib.Core.Path.{_≡_};
-ghost use Rattle.stream.specs.Feed.{start, openPartWay};
+ghost use Rattle.stream.specs.Feed.{noTally, start, openPartWay};
 ghost use Rattle.feed_start.specs.Answers.{toldOpened};
 use granule::Position;
 use head_fields::Head;
@@ -33,9 +33,23 @@ pub fn start_core() -> Core
     }
 }
 
+// The tally of a reader before any page: nothing is to skip yet, and every total is zero (RULES.md, 7). It refuses nothing.
+// Example: `no_tally().kept` is 0, as the four other numbers are.
+pub fn no_tally() -> Tally
+    ensures { λ r. ⌜ r ≡ noTally ⌝ }
+{
+    Tally {
+        skip: 0,
+        kept: 0,
+        skipped: 0,
+        trimmed: 0,
+        hole: 0,
+    }
+}
+
 // The core and tally of a reader opened part way, in a stream with this header. 23: no reading gives
 // these fields, by `head_fields::right_head` (RULES.md, 9).
-// Example: right fields with 1 stream and pre-skip 312 give a core with these two, and 0 samples to skip.
+// Example: right fields with 1 stream and pre-skip 312 give a core with these two, and a tally of zeros.
 pub fn open_core(head: Head) -> CoreOpened
     ensures { λ r. ⌜ toldOpened r ≡ openPartWay head ⌝ }
 {
@@ -51,5 +65,5 @@ pub fn open_core(head: Head) -> CoreOpened
         streams: head.streams,
         preskip: head.preskip,
     };
-    CoreOpened::At(core, Tally { skip: 0 })
+    CoreOpened::At(core, no_tally())
 }

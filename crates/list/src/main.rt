@@ -2,14 +2,13 @@
 // refusal that ended it. Pages are fed where they lie in the buffer. Places are cut to their buffers' lengths, so that no
 // function has to know what another left.
 use feed_pages::Stop;
-use feed_pages::Sums;
 use limits::PACKET_MAX;
 use reader::Reader;
 use refusal::Refusal;
 
 // How far a listing has come. The bytes of the buffer from `from` to `to` are not fed yet. The places of the lists from
 // `listed` to `packets` are not written yet. `filled` bytes of the output are filled. `stop` is why the last run of pages
-// stopped, and `pages` and `sums` are the pages and samples so far.
+// stopped, and `pages` is how many pages were accepted so far.
 struct Listing {
     reader: Reader,
     from: usize,
@@ -18,7 +17,6 @@ struct Listing {
     packets: usize,
     filled: usize,
     pages: u64,
-    sums: Sums,
     stop: Stop,
 }
 
@@ -32,26 +30,6 @@ enum Input {
     Bytes(usize),
     End,
     Failed,
-}
-
-fn no_sums() -> Sums {
-    Sums {
-        samples: 0,
-        kept: 0,
-        skipped: 0,
-        trimmed: 0,
-        hole: 0,
-    }
-}
-
-fn plus(a: Sums, b: Sums) -> Sums {
-    Sums {
-        samples: std::num::wrapping_add_u64(a.samples, b.samples),
-        kept: std::num::wrapping_add_u64(a.kept, b.kept),
-        skipped: std::num::wrapping_add_u64(a.skipped, b.skipped),
-        trimmed: std::num::wrapping_add_u64(a.trimmed, b.trimmed),
-        hole: std::num::wrapping_add_u64(a.hole, b.hole),
-    }
 }
 
 // The places from `from` to `to` of a list, as far as it has them.
@@ -91,7 +69,6 @@ fn read_more(buffer: &mut [u8], at: usize) -> Input {
 // The same listing with other bytes to feed, and another reason to go on or to end.
 fn moved(w: Listing, from: usize, to: usize, stop: Stop) -> Listing {
     let reader = w.reader;
-    let sums = w.sums;
     Listing {
         reader,
         from,
@@ -100,7 +77,6 @@ fn moved(w: Listing, from: usize, to: usize, stop: Stop) -> Listing {
         packets: w.packets,
         filled: w.filled,
         pages: w.pages,
-        sums,
         stop,
     }
 }
@@ -120,7 +96,6 @@ fn feed_more(
     let p = fed.progress;
     let stop = fed.stop;
     let reader = p.reader;
-    let sums = plus(w.sums, p.sums);
     Listing {
         reader,
         from: std::num::wrapping_add_usize(from, p.bytes),
@@ -129,7 +104,6 @@ fn feed_more(
         packets: p.packets,
         filled: w.filled,
         pages: std::num::wrapping_add_u64(w.pages, p.pages as u64),
-        sums,
         stop,
     }
 }
@@ -152,7 +126,6 @@ fn put_lines(w: Listing, ends: &[u64], lengths: &[u64], kept: &[u64], out: &mut 
         filled = 0;
     }
     let reader = w.reader;
-    let sums = w.sums;
     let stop = w.stop;
     Step::Goes(Listing {
         reader,
@@ -162,7 +135,6 @@ fn put_lines(w: Listing, ends: &[u64], lengths: &[u64], kept: &[u64], out: &mut 
         packets: w.packets,
         filled,
         pages: w.pages,
-        sums,
         stop,
     })
 }
@@ -176,7 +148,7 @@ fn end_with_refusal(w: Listing, why: Refusal, out: &mut [u8]) {
 
 fn end_with_total(w: Listing, out: &mut [u8]) {
     if write_out(out, w.filled) {
-        let s = w.sums;
+        let s = reader::totals(w.reader);
         let n = list_lines::put_total(out, 0, s.kept, s.skipped, s.trimmed, s.hole);
         write_out(out, n);
     }
@@ -262,7 +234,6 @@ fn main() {
         packets: 0,
         filled,
         pages: 0,
-        sums: no_sums(),
         stop: Stop::Cut,
     };
     run(

@@ -9,7 +9,7 @@ ghost use Rattle.stream.specs.Lent.{Lent, atEntry, atExit};
 ghost use Rattle.stream.specs.Feed.{start as started, openPartWay, Fed as Outcome, FedIs, Feeds, toldPage};
 ghost use Rattle.stream.specs.Feedings.{heldOf};
 ghost use Rattle.feed_numbers.specs.Numbers.{StandFor};
-ghost use Rattle.reader.specs.Answers.{knownAs, toldOpened, toldFed};
+ghost use Rattle.reader.specs.Answers.{knownAs, toldOpened, toldFed, totalsOf};
 ghost use Rattle.reader.specs.Numbers.{StateOpenedIs, StateFedIs, StateFeeds};
 use feed_start::CoreOpened;
 use granule::Position;
@@ -24,6 +24,14 @@ use stream::Tally;
 pub struct Reader {
     core: Core,
     tally: Tally,
+}
+
+// What a reader has counted on the pages that it accepted, in samples: kept, skipped and trimmed ones, and the holes.
+pub struct SampleTotals {
+    pub kept: u64,
+    pub skipped: u64,
+    pub trimmed: u64,
+    pub hole: u64,
 }
 
 pub enum Opened {
@@ -49,7 +57,7 @@ pub fn start() -> Reader
 {
     Reader {
         core: feed_start::start_core(),
-        tally: Tally { skip: 0 },
+        tally: feed_start::no_tally(),
     }
 }
 
@@ -90,6 +98,20 @@ pub fn position(reader: Reader) -> Position
 {
     let core = reader.core;
     core.position
+}
+
+// The totals of the pages accepted (RULES.md, 8 and 9). A refused page moves none. It refuses nothing.
+// Example: those of `start()` are zeros; after the page in the example of embulgri_feed they are 2568, 312, 0 and 0.
+pub fn totals(reader: Reader) -> SampleTotals
+    ensures { λ r. ⌜ r ≡ totalsOf (reader .tally) ⌝ }
+{
+    let tally = reader.tally;
+    SampleTotals {
+        kept: tally.kept,
+        skipped: tally.skipped,
+        trimmed: tally.trimmed,
+        hole: tally.hole,
+    }
 }
 
 // How many bytes of the carry buffer the next feeding needs as this one left them (RULES.md, 7). It refuses nothing.
@@ -184,7 +206,7 @@ pub enum StateFed {
 pub fn start_state() -> [u64; 16]
     ensures { λ r. ⌜ StandFor r started ⌝ }
 {
-    feed_numbers::numbers_of(feed_start::start_core(), Tally { skip: 0 })
+    feed_numbers::numbers_of(feed_start::start_core(), feed_start::no_tally())
 }
 
 // The same as `open`, into sixteen numbers (RULES.md, 14). A refusal, of 23, changes none.

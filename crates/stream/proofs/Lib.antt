@@ -23,3 +23,8 @@ pub mod Unskipped
 pub mod CarryBuffer
 pub mod Entering
 pub mod EnteringAll
+pub mod TotalsLengths
+pub mod TotalsAny
+pub mod Totals
+pub mod TotalsPage
+pub mod OpenedTotals

@@ -61,7 +61,7 @@ length-map : {A B : Type 0} (f : A → B) (l : List A) → length (map f l) ≡ 
 length-map f [] = refl
 length-map f (x ∷ l) = ap suc (length-map f l)
 
-audio-few : (R : Readings) (s : State) (b : Bytes) → Octets b → length (lengthsOf R s (seen s (pageOf b))) ≤ listMax
+pub audio-few : (R : Readings) (s : State) (b : Bytes) → Octets b → length (lengthsOf R s (seen s (pageOf b))) ≤ listMax
 unfolding lengthsOf audioPackets seen whole
 audio-few R s b o = by (inHeaders (s .phase))
   where

@@ -16,7 +16,7 @@ use Rattle.stream.specs.Readings.{Readings}
 use Rattle.stream.specs.State.{Carried, State, expecting}
 use Rattle.stream.specs.Packets.{seen}
 use Rattle.stream.specs.Rules.{Stamp, verdict, after}
-use Rattle.stream.specs.Feed.{Reader, view, entriesOn, countsOn, skipOn, Fed, fedBy}
+use Rattle.stream.specs.Feed.{Reader, view, entriesOn, countsOn, skipOn, tallyOn, Fed, fedBy}
 use Rattle.stream.specs.Lent.{Lent, isShort}
 use Rattle.stream.specs.Stream.{Listing}
 use Rattle.stream.specs.Feedings.{Feeding, feedIn, readerBy, readerAfter, finally, heldOf, leftIn, carryLeft, HandedOn, Shown, showAs, stream, bytesOf, Marked, allOf, marked, RoomAtMarks, isRefused, OthersRefused, tell, toldAtMarks}
@@ -80,7 +80,7 @@ Ran-on R r s u b fs l g =
 
 ran-on : (R : Readings) (r : Reader) (m : Lent) (s : State) (b : Bytes) (fs : List Feeding) (l : Bytes) (v : Option Refusal) → verdict R s b ≡ v
     → Ran-on R r s (stateBy v s (after R s b)) b fs l (fedAt v R r m s b)
-unfolding afterAll skipAll
+unfolding afterAll skipAll skipOn tallyOn
 ran-on R r m s b fs l none e k = record { lists = (e, refl, k .lists); state = k .state; skips = k .skips }
 ran-on R r m s b fs l (some n) e k = k
 

@@ -19,7 +19,7 @@ use Rattle.stream.specs.Readings.{Readings}
 use Rattle.stream.specs.State.{State, isFirst, expectingIn, expecting}
 use Rattle.stream.specs.Packets.{Seen, lengthsOf}
 use Rattle.stream.specs.Rules.{nextOn, startOn, afterPhase, verdict}
-use Rattle.stream.specs.Feed.{Reader, view, openAt, Entry, entries, entriesOn, countsOn, skipAfter, skipOn, Taken, Fed, fedBy, feed}
+use Rattle.stream.specs.Feed.{Reader, view, openAt, Entry, entries, entriesOn, countsOn, skipAfter, skipOn, tallyOn, Taken, Fed, fedBy, feed}
 use Rattle.stream.specs.Lent.{Lent, isShort}
 use Rattle.stream.specs.Feedings.{Feeding, feedIn, readerBy, readerAfter, finally, Shown, showAs, stream}
 use Rattle.stream.specs.Unskipped.{AllButTrimmed, Unskipping, FeedsUnskipped, StaysUnskipping, EachAllButTrimmed, OpenedUnskipped}
@@ -31,14 +31,14 @@ and-false : (t : Bool) → (not t && false) ≡ false
 and-false true = refl
 and-false false = refl
 
-skipped-none : (end : Bool) (g at d : ℕ) → skippedOf 0 end g at d ≡ 0
+pub skipped-none : (end : Bool) (g at d : ℕ) → skippedOf 0 end g at d ≡ 0
 unfolding skippedOf
 skipped-none end g at d =
     tally-same (isSkipped 0 end g at) (λ (j : ℕ). false)
     (λ (j : ℕ). ap (λ (b : Bool). not (isTrimmed end g at j) && b) (le-ltb j 0 (omega arith)) ∙ and-false (isTrimmed end g at j)) d
     ∙ tally-none d
 
-kept-rest : (end : Bool) (g at d : ℕ) → keptOf 0 end g at d + trimmedOf end g at d ≡ d
+pub kept-rest : (end : Bool) (g at d : ℕ) → keptOf 0 end g at d + trimmedOf end g at d ≡ d
 kept-rest end g at d = omega (arith, samples-shared 0 end g at d, skipped-none end g at d)
 
 kept-each : (skip : ℕ) (end : Bool) (g at d : ℕ) → skip ≡ 0 → keptOf skip end g at d + trimmedOf end g (at + d - d) d ≡ d
@@ -107,7 +107,7 @@ shows-by R r m s p x t (some n) u e = absurd (gives≢refuses (sym e))
 
 stays-by : (R : Readings) (r : Reader) (m : Lent) (s : State) (p : Page) (x : Seen) (v : Option Refusal) → Unskipping r
     → isFirst (s .phase) ≡ false → Unskipping (readerBy (fedBy v R r m s p x .told) r)
-unfolding skipOn nextOn
+unfolding skipOn tallyOn nextOn
 stays-by R r m s p x none u f = record {
   skip = skip-stays (s .phase) _ (r .tally .skip) (total (lengthsOf R s x)) f (u .skip);
   past = never-first (s .phase) (x .completes) (last p);

@@ -1,6 +1,6 @@
 -- Starting, opening part way and feeding: what each tells, the next reader, and the end contents of the carry buffer and of the
 -- three lists, for any reader, bytes and lent memory (RULES.md, 7). Assumes nothing.
-use Prim.Native.Nat.{ℕ, _+_, _-_}
+use Prim.Native.Nat.{ℕ, _+_, _-_, _%_, _^_}
 use mathlib.Core.Path.{_≡_}
 use mathlib.Core.Bool.{Bool, not, _||_}
 use mathlib.Core.List.{List, [], _∷_, _++_, map}
@@ -78,15 +78,19 @@ coreOf s = record {
 
 -- ---- starting and opening part way
 
+-- before any page: nothing is to skip yet, and every total is zero
+abbrev pub noTally : Tally
+noTally = record { skip = 0; kept = 0; skipped = 0; trimmed = 0; hole = 0 }
+
 abbrev pub start : Reader
 start = record {
   core = record { phase = First; pending = Nothing; position = Unset; serial = 0; next = 0; streams = 0; preskip = 0 };
-  tally = record { skip = 0 };
+  tally = noTally;
 }
 
 -- opened part way nothing is skipped: kept then means not trimmed
 abbrev pub openTally : Head → Tally
-openTally h = record { skip = 0 }
+openTally h = noTally
 
 abbrev pub openAt : Head → Reader
 openAt h = record {
@@ -153,6 +157,23 @@ skipAfter Ended preskip skip d = skip
 
 unfoldable pub skipOn : Readings → ℕ → State → Page → Seen → ℕ
 skipOn R skip s p x = skipAfter (s .phase) (nextOn R s p x .preskip) skip (total (lengthsOf R s x))
+
+-- a total after n more
+abbrev pub added : ℕ → ℕ → ℕ
+added total n = (total + n) % 2 ^ 64
+
+-- the tally after a page with this record, `skip` samples being still to skip
+abbrev pub tallyAfter : Tally → ℕ → Counts → Tally
+tallyAfter t skip c = record {
+  skip = skip;
+  kept = added (t .kept) (c .kept);
+  skipped = added (t .skipped) (c .skipped);
+  trimmed = added (t .trimmed) (c .trimmed);
+  hole = added (t .hole) (c .hole);
+}
+
+unfoldable pub tallyOn : Readings → Tally → State → Page → Seen → Tally
+tallyOn R t s p x = tallyAfter t (skipOn R (t .skip) s p x) (countsOn R (t .skip) s p x)
 
 -- ---- the carry buffer and the lists at the end
 
@@ -225,7 +246,7 @@ pub record FedWhen (due : Bool) (f : Fed) (t : Option (Told Taken)) (before afte
 abbrev pub fedBy : Option Refusal → Readings → Reader → Lent → State → Page → Seen → Fed
 fedBy none R r m t p x = record {
   told = gives (record {
-    reader = record { core = coreOf (nextOn R t p x); tally = record { skip = skipOn R (r .tally .skip) t p x } };
+    reader = record { core = coreOf (nextOn R t p x); tally = tallyOn R (r .tally) t p x };
     counts = countsOn R (r .tally .skip) t p x;
   });
   entries = entriesOn R (r .tally .skip) t p x;

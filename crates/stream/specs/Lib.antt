@@ -13,3 +13,4 @@ pub mod SameAnswers
 pub mod Unskipped
 pub mod CarryBuffer
 pub mod Entering
+pub mod Totals

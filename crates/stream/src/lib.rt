@@ -38,9 +38,14 @@ pub struct Core {
     pub phase: Phase,
 }
 
-// All that only counts: the samples still to skip.
+// All that only counts: the samples still to skip, and those of all accepted pages that were kept, skipped and trimmed, and the
+// holes. A total is modulo 2^64, which no stream reaches.
 pub struct Tally {
     pub skip: u16,
+    pub kept: u64,
+    pub skipped: u64,
+    pub trimmed: u64,
+    pub hole: u64,
 }
 
 // An accepted page: the packets that it lists, their samples, how many of these are kept, skipped and trimmed, and the hole

@@ -42,7 +42,7 @@ enum Got {
 // ---- reading
 
 // Reads on after the first n bytes, and tells where the bytes end now. A failure is said on standard error.
-fn read_behind(buffer: &mut [u8], n: usize) -> Got {
+fn read_after(buffer: &mut [u8], n: usize) -> Got {
     let at = octets::least(n, buffer.len());
     let got = libc::read(libc::STDIN_FILENO, &mut buffer[at..]);
     if got < 0 {
@@ -130,7 +130,7 @@ fn ended(p: Progress, n: usize) -> Progress {
 
 // Reads on after the first n bytes.
 fn read_turn(p: Progress, n: usize, buffer: &mut [u8]) -> State {
-    match read_behind(buffer, n) {
+    match read_after(buffer, n) {
         Got::Bytes(end) => State {
             progress: p,
             start: 0,

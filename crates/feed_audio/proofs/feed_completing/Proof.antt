@@ -52,7 +52,8 @@ returns c crc =
 
 returns-2 : tie.Need-returns-2
 returns-2 c crc =
-    let kept-rest = c .before .before .before .before .before in
+    let core = c .before in
+    let kept-rest = core .before .before .before .before .before in
     let lists = kept-rest .before .before .before .before .before .before .before .before in
     let marked = lists .before .before .before .before .before in
     let got = marked .before .before in
@@ -65,8 +66,9 @@ returns-2 c crc =
     (st .pre) (few st) (joined .append .ensures) (rw q at (done .time-page .ensures))
     (rw (marked .is-last-page .ensures) at (lists .list-packets .ensures))
     (kept-rest .keep-rest .ensures)
-    (rw (marked .is-last-page .ensures) at (c .before .before .counts-of .ensures))
-    (c .next-core .ensures ∙ ap (λ (p : Pending). nextCore (a .core) (a .h) p (At (a .h .granule))) (c .before .begun .ensures))
+    (rw (marked .is-last-page .ensures) at (core .before .before .counts-of .ensures))
+    (core .next-core .ensures ∙ ap (λ (p : Pending). nextCore (a .core) (a .h) p (At (a .h .granule))) (core .before .begun .ensures))
+    (c .next-tally .ensures)
 
 pub feed-completing-spec : {M : Type 1} → statement M
 feed-completing-spec =
@@ -75,7 +77,9 @@ feed-completing-spec =
     (λ c κs. search needs) (λ c. search needs) (λ c κs. search needs) (λ c. search needs) (λ c. search needs) (λ c κs. search needs)
     (λ c. search needs) list-packets-requires
     (λ c κs. c .before .before .before .before .before .before .before .before .before .before .before .before .before .before .before .before .before .before .before .before .before .before .before .before .before .before .before .before .before .before .pre .left)
-    counts-of-requires (λ c κs. search needs) (λ c κs. search needs)
+    counts-of-requires (λ c κs. search needs) (λ c κs. search needs) (λ c κs. search needs)
     (λ c. search needs) returns
-    (λ c. c .before .before .before .before .carry2 .given ∙ c .before .before .before .before .before .before .before .before .before .before .before .before .before .before .before .before .before .before .before .before .before .before .before .before .before .before .before .carry .given)
-    (λ c. search needs) (λ c. search needs) (λ c. search needs) returns-2)
+    (λ c. c .before .before .before .before .before .carry2 .given ∙ c .before .before .before .before .before .before .before .before .before .before .before .before .before .before .before .before .before .before .before .before .before .before .before .before .before .before .before .before .carry .given)
+    (λ c. c .before .before .before .before .before .before .before .before .before .before .before .before .before .ends .given)
+    (λ c. c .before .before .before .before .before .before .before .before .before .before .before .lengths .given)
+    (λ c. c .before .before .before .before .before .before .before .before .before .kept .given) returns-2)

@@ -10,17 +10,19 @@ use Rattle.feed_audio.proofs.feed_piece.Tie as tie
 
 returns : tie.Need-returns
 returns c crc l ends lengths kept s =
-    let kept-rest = c .before .before .before .before .before in
+    let none = c .before in
+    let kept-rest = none .before .before .before .before .before in
     let joined = kept-rest .before .before .before .before .before in
     let a = joined .before .before .before .before .args in
-    rw (c .no-counts .ensures) (piece-page crc (a .core) (a .tally) (a .h) l (now (a .body)) (now (a .carry)) ends lengths kept (a .bytes) (a .rest) s
+    rw (c .next-tally .ensures, none .no-counts .ensures) (piece-page crc (a .core) (a .tally) (a .h) l (now (a .body)) (now (a .carry)) ends lengths kept (a .bytes) (a .rest) s
     (joined .append .ensures)
     (rw (kept-rest .before .before .fresh .ensures) at (kept-rest .keep-rest .ensures))
-    (c .before .next-core .ensures ∙ ap (λ (p : Pending). nextCore (a .core) (a .h) p (a .core .position)) (c .before .before .still-pending .ensures)))
+    (none .before .next-core .ensures
+    ∙ ap (λ (p : Pending). nextCore (a .core) (a .h) p (a .core .position)) (none .before .before .still-pending .ensures)))
 
 pub feed-piece-spec : {M : Type 1} → statement M
 feed-piece-spec =
     tie.close
     (tie.spec
     (λ c κs. search needs) (λ c κs. search needs) (λ c κs. search needs) (λ c κs. search needs) (λ c κs. search needs)
-    (λ c κs. search needs) (λ c. search needs) returns)
+    (λ c κs. search needs) (λ c κs. search needs) (λ c. search needs) returns)

@@ -68,25 +68,27 @@ module _ (c : tie.After-is-ends) where
 returns : tie.Need-returns
 returns c =
     λ crc m.
-    let goes = c .before .before in
+    let none = c .before in
+    let goes = none .before .before in
     let e = goes .before in
     let st = s e in
     let a = st .args in
-    rw (c .no-counts .ensures, c .before .next-core .ensures, left e .longer .ensures)
+    rw (c .next-tally .ensures, none .no-counts .ensures, none .before .next-core .ensures, left e .longer .ensures)
     (earlier-accepted crc (a .core) (a .tally) (now (a .carry)) m (a .h) (now (a .lacing)) (now (a .body)) (st .pre .comment) (st .pre .sums)
     (clear e) (earlier e (failed (ends e) (goes .if1 .taken))) (st .pre .room) (put e .append .ensures))
 
 returns-2 : tie.Need-returns-2
 returns-2 c =
     λ crc m.
-    let arm = c .before .before in
+    let none = c .before in
+    let arm = none .before .before in
     let read = arm .before .before in
     let part = read .before in
     let count = part .before in
     let e = count .before .before .before in
     let st = s e in
     let a = st .args in
-    rw (c .no-counts2 .ensures, c .before .next-core2 .ensures)
+    rw (c .next-tally2 .ensures, none .no-counts2 .ensures, none .before .next-core2 .ensures)
     (last-accepted crc (a .core) (a .tally) (now (a .carry)) m (a .h) (now (a .lacing)) (now (a .body)) (st .pre .comment) (st .pre .sums)
     (clear e) (ends-is _ (held (ends e) (count .before .before .if1 .left))) (st .pre .room) (put e .append .ensures)
     (count .held-in .ensures ∙ ap heldOf (left e .longer .ensures)) (part .part-of .ensures)
@@ -122,6 +124,7 @@ feed-comment-spec =
     tie.close
     (tie.spec
     (λ c κs. search needs) check-lacing-requires (λ c. search needs) longer-requires (λ c κs. search needs) (λ c κs. search needs)
-    (λ c κs. search needs) (λ c κs. search needs) (λ c. search needs) returns (λ c κs. search needs) (λ c κs. search needs)
-    (λ c κs. search needs) (λ c. search needs) (λ c κs. search needs) (λ c κs. search needs) (λ c. search needs) (λ c. search needs)
-    (λ c. search needs) returns-2 (λ c. search needs) returns-3 returns-4)
+    (λ c κs. search needs) (λ c κs. search needs) (λ c κs. search needs) (λ c. search needs) returns (λ c κs. search needs)
+    (λ c κs. search needs) (λ c κs. search needs) (λ c. search needs) (λ c κs. search needs) (λ c κs. search needs)
+    (λ c κs. search needs) (λ c. search needs) (λ c. search needs)
+    (λ c. c .before .before .before .before .before .before .before .before .before .before .before .before .carry .given) returns-2 (λ c. search needs) returns-3 returns-4)

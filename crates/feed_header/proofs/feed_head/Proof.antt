@@ -28,37 +28,38 @@ check-lacing-requires c κs =
 
 returns : tie.Need-returns
 returns c =
-    λ crc m tally.
-    let verdict = c .before .before in
+    λ crc m.
+    let none = c .before in
+    let verdict = none .before .before in
     let read = verdict .before .before .before in
     let check = read .before .before .before in
     let s = start check in
     let a = s .args in
-    rw (c .no-counts .ensures, c .before .next-core .ensures)
-    (head-accepted crc (a .core) tally m (a .h) (now (a .lacing)) (now (a .body)) (s .pre .first) (s .pre .none-left) (s .pre .sums)
+    rw (c .next-tally .ensures, none .no-counts .ensures, none .before .next-core .ensures)
+    (head-accepted crc (a .core) (a .tally) m (a .h) (now (a .lacing)) (now (a .body)) (s .pre .first) (s .pre .none-left) (s .pre .sums)
     (lacing check _ (read .before .enum-told .given .1) (m .carry)) (read .read-head .result .head)
     (sym (read .read-head .ensures .told) ∙ ap (λ (v : Verdict). toldBy v (read .read-head .result .head)) (verdict .enum-told2 .given .1)))
 
 returns-2 : tie.Need-returns-2
 returns-2 c =
-    λ crc m tally.
+    λ crc m.
     let verdict = c .before in
     let read = verdict .before .before .before in
     let check = read .before .before .before in
     let s = start check in
     let a = s .args in
-    head-refused crc (a .core) tally m (a .h) (now (a .lacing)) (now (a .body)) (s .pre .first) (s .pre .none-left) (s .pre .sums)
+    head-refused crc (a .core) (a .tally) m (a .h) (now (a .lacing)) (now (a .body)) (s .pre .first) (s .pre .none-left) (s .pre .sums)
     (lacing check _ (read .before .enum-told .given .1) (m .carry)) (verdict .verdict .given .0 .0)
     (sym (read .read-head .ensures .told) ∙ ap (λ (v : Verdict). toldBy v (read .read-head .result .head)) (verdict .verdict .given .1))
 
 returns-3 : tie.Need-returns-3
 returns-3 c =
-    λ crc m tally.
+    λ crc m.
     let arm = c .before in
     let check = arm .before .before in
     let s = start check in
     let a = s .args in
-    head-below-12 crc (a .core) tally m (a .h) (now (a .lacing)) (now (a .body)) (s .pre .first) (s .pre .none-left) (arm .why .given .0 .0)
+    head-below-12 crc (a .core) (a .tally) m (a .h) (now (a .lacing)) (now (a .body)) (s .pre .first) (s .pre .none-left) (arm .why .given .0 .0)
     (lacing check _ (arm .why .given .1) (m .carry))
 
 pub feed-head-spec : {M : Type 1} → statement M
@@ -66,4 +67,4 @@ feed-head-spec =
     tie.close
     (tie.spec
     (λ c κs. search needs) check-lacing-requires (λ c. search needs) (λ c κs. search needs) (λ c. search needs) (λ c κs. search needs)
-    (λ c κs. search needs) (λ c. search needs) (λ c. search needs) returns returns-2 returns-3)
+    (λ c κs. search needs) (λ c κs. search needs) (λ c. search needs) (λ c. search needs) returns returns-2 returns-3)

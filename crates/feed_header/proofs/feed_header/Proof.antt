@@ -37,7 +37,7 @@ returns-2 c crc m =
     let fed = c .before .before .before in
     let a = start (fed .before) .args in
     due (a .core) (now (a .lacing)) (now (a .body)) (now (a .carry)) (readings crc) (a .tally) (a .h) m (passed fed) (c .feed-head .result)
-    (c .feed-head .ensures crc (withCarry m (now (a .carry))) (a .tally))
+    (c .feed-head .ensures crc (withCarry m (now (a .carry))))
 
 feed-comment-requires : tie.Need-feed-comment-requires
 feed-comment-requires c κs =

@@ -10,4 +10,5 @@ unfolding readerFrom
 returns c = refl
 
 pub tally-from-spec : {M : Type 1} → statement M
-tally-from-spec = tie.close (tie.spec (λ c. search needs) (λ c. search needs) returns)
+tally-from-spec = tie.close (tie.spec
+    (λ c. search needs) (λ c. search needs) (λ c. search needs) (λ c. search needs) (λ c. search needs) (λ c. search needs) returns)

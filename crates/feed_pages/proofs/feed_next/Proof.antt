@@ -24,13 +24,13 @@ lent s = lentOf (now (s .args .carry)) (now (s .args .ends)) (now (s .args .leng
 returns : tie.Need-returns
 unfolding isFull
 returns c =
-    let s = c .before .before .before .before .before .before .before .before .before in
+    let s = c .before .before .before .before .before .before .before .before in
     turn-full _ (now (s .args .buffer)) (s .args .p) (lent s) (sym (c .before .are-lists-short .ensures) ∙ c .if1 .taken)
 
 -- the place where the end of the page is known
 module _ (c : tie.After-known-told) where
   abbrev begun : tie.Start
-  begun = c .before .before .before .before .before .before .before .before .before .before .before .before .before
+  begun = c .before .before .before .before .before .before .before .before .before .before .before .before
 
   abbrev end : ℕ
   end = c .before .end .given .0 .0
@@ -54,40 +54,40 @@ part-feed-with-start c = omega (arith, inside c .after, inside c .within)
 part-feed-with-end : tie.Need-part-feed-with-end
 part-feed-with-end c = omega (arith, inside c .after, inside c .within)
 
-add-t50 : tie.Need-add-t50
-add-t50 c =
+add-t49 : tie.Need-add-t49
+add-t49 c =
     let known = c .before .before .before .before .before .before .before .before .before .before .before .before .before .before .before .before .before .before in
     let few = begun known .pre .few in
     let small = inside known in
     search needs
 
-add-t52 : tie.Need-add-t52
-add-t52 c =
+add-t51 : tie.Need-add-t51
+add-t51 c =
     let known = c .before .before .before .before .before .before .before .before .before .before .before .before .before .before .before .before .before .before in
     let s = begun known in
     let call = c .before .before .before .before .before .before .before .before .before .before .before .before in
     let few = few-packets _ (now (s .args .buffer)) (s .args .p) (lent s) (places known) (end known) (ends-at known) (call .feed-with .ensures)
-    (record { below = λ i. known .before .before .before .before .before .before .before .before .before .before .before .before .shared-slice-known .given i .fits }) (s .pre) (ap toldFed (c .before .before .next .given .1)) in
+    (record { below = λ i. known .before .before .before .before .before .before .before .before .before .before .before .shared-slice-known .given i .fits }) (s .pre) (ap toldFed (c .before .before .next .given .1)) in
     let room = s .pre .ends in
     search needs
 
 returns-2 : tie.Need-returns-2
 unfolding isFull
 returns-2 c =
-    let s = c .before .before .before .before .before .before .before .before .before .before .before .before in
+    let s = c .before .before .before .before .before .before .before .before .before .before .before in
     turn-cut _ (now (s .args .buffer)) (s .args .p) (lent s)
     (sym (c .before .before .before .before .are-lists-short .ensures) ∙ c .before .before .before .if1 .left) (sym (c .before .before .end-at .ensures) ∙ ap foundEnd (c .enum-told .given .1))
 
 same-length : tie.Need-same-length
-same-length c = c .before .before .before .before .before .before .before .before .before .before .before .before .carry .given
+same-length c = c .before .before .before .before .before .before .before .before .before .before .before .carry .given
 
 returns-3 : tie.Need-returns-3
 returns-3 c =
-    let call = c .before .before .before .before .before .before .before .before .before .before .before .before .before in
+    let call = c .before .before .before .before .before .before .before .before .before .before .before .before in
     let known = call .before .before .before .before .before .before in
     let s = begun known in
-    rw (c .added-to .ensures)
-    (turn-told _ (now (s .args .buffer)) (s .args .p) (lent s) (places known) (end known) (ends-at known) (call .feed-with .ensures) (ap toldFed (c .before .before .before .next .given .1)))
+    turn-told _ (now (s .args .buffer)) (s .args .p) (lent s) (places known) (end known) (ends-at known) (call .feed-with .ensures)
+    (ap toldFed (c .before .before .next .given .1))
 
 returns-4 : tie.Need-returns-4
 returns-4 c =
@@ -103,5 +103,5 @@ feed-next-spec =
     (λ c. search needs) (λ c. search needs) (λ c. search needs) (λ c κs. search needs) returns (λ c κs. search needs) (λ c. search needs) (λ c. search needs)
     sub-feed-with part-feed-with-start part-feed-with-end (λ c. search needs) (λ c. search needs) (λ c. search needs) (λ c. search needs)
     (λ c. search needs) (λ c. search needs) (λ c. search needs) (λ c. search needs) (λ c. search needs) (λ c. search needs) (λ c. search needs) (λ c. search needs)
-    (λ c κs. search needs) (λ c. search needs) add-t50 add-t52 (λ c κs. search needs) (λ c. search needs) returns-2 same-length (λ c. search needs) (λ c. search needs)
+    (λ c κs. search needs) (λ c. search needs) add-t49 add-t51 (λ c. search needs) returns-2 same-length (λ c. search needs) (λ c. search needs)
     (λ c. search needs) returns-3 (λ c. search needs) (λ c. search needs) (λ c. search needs) (λ c. search needs) returns-4)

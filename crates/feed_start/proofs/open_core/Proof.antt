@@ -12,7 +12,7 @@ returns c = rw (failed (c .before .right-head .ensures) (c .if1 .taken))
 
 returns-2 : tie.Need-returns-2
 unfolding openPartWay firstOf
-returns-2 c = rw (held (c .before .right-head .ensures) (c .if1 .left))
+returns-2 c = rw (c .no-tally .ensures, held (c .before .before .right-head .ensures) (c .before .if1 .left))
 
 pub open-core-spec : {M : Type 1} → statement M
-open-core-spec = tie.close (tie.spec (λ c κs. search needs) returns returns-2)
+open-core-spec = tie.close (tie.spec (λ c κs. search needs) returns (λ c κs. search needs) returns-2)
