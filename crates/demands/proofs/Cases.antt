@@ -1,6 +1,7 @@
 -- The sixteen cases, computed. Assumes nothing.
 use mathlib.Core.Path.{refl}
 use Rattle.octets.specs.Octets.{total}
+use Rattle.stream.specs.Packets.{samplesOf}
 use Rattle.refusal.specs.Checks.{firstOf}
 use Rattle.packet_toc.specs.Toc.{configSamples, frameSamples}
 use Rattle.packet_frames.specs.Frames.{coded, codedTimes, paddingFrom}
@@ -12,5 +13,5 @@ use Rattle.stream.specs.Stream.{lastFrom, countFrom}
 use Rattle.demands.specs.Cases.{refusedFrom, countsOf, CasesHold}
 
 pub cases-hold : CasesHold
-unfolding total firstOf configSamples frameSamples coded codedTimes paddingFrom countedShape shapeOf parse lengthsOf allAre readPacket tally from lastFrom countFrom refusedFrom countsOf
+unfolding samplesOf total firstOf configSamples frameSamples coded codedTimes paddingFrom countedShape shapeOf parse lengthsOf allAre readPacket tally from lastFrom countFrom refusedFrom countsOf
 cases-hold = refl

@@ -43,7 +43,7 @@ use Rattle.stream.specs.declared.Phase.the-variants.{Comment, Audio, Opened, En
 use Rattle.stream.specs.Page.{Page, pageOf, continued, last, whole, rest}
 use Rattle.stream.specs.Readings.{readings}
 use Rattle.stream.specs.State.{Carried, nothing, dropped, held, State, isEnded, expecting}
-use Rattle.stream.specs.Packets.{Seen, join, seen, anyLong, longFrom, afterFirst, audioPackets, lengthsOf}
+use Rattle.stream.specs.Packets.{Seen, join, seen, anyLong, longFrom, afterFirst, audioPackets, measuresOf, samplesOf}
 use Rattle.limits.specs.Limits.{packetMax}
 use Rattle.stream.specs.Shape.{shapeFrom, shapeOf as pageShape}
 use Rattle.stream.specs.Rules.{wrongFlags, fieldChecks, lacingChecks, headerChecks, packetChecks, timeChecks, checksOn, Stamp, stamps, startOn, stampsOn, nextOn, verdict, after, stamped}
@@ -190,7 +190,7 @@ pub record Steps : Type 0 where
   pub dropped : Step q1 (written holePage) s5 []
 
 pub steps : Steps
-unfolding firstOf expecting seen join whole rest cutFrom unfinishedFrom wrongFlags continued last longFrom anyLong endedFrom afterFirst pageShape shapeFrom granuleWrong readings begins isTags isLaidOut fitsAt allFit textsFrom placeAfter tagsOf rightTags rightComments allRight occurrences utf8 utf8From packetChecks audioPackets timeChecks lengthsOf nextOn stampsOn startOn from stamps total packetLengths parse shapeOf allAre frameSamples configSamples coded codedTimes countedShape paddingFrom isHead fieldsOf number value streamsOf coupledOf indicesOf places rightLength rightMapping allowedChannels rightStreams rightIndices
+unfolding firstOf expecting seen join whole rest cutFrom unfinishedFrom wrongFlags continued last longFrom anyLong endedFrom afterFirst pageShape shapeFrom granuleWrong readings begins isTags isLaidOut fitsAt allFit textsFrom placeAfter tagsOf rightTags rightComments allRight occurrences utf8 utf8From packetChecks audioPackets timeChecks measuresOf nextOn stampsOn startOn from stamps samplesOf total packetLengths parse shapeOf allAre frameSamples configSamples coded codedTimes countedShape paddingFrom isHead fieldsOf number value streamsOf coupledOf indicesOf places rightLength rightMapping allowedChannels rightStreams rightIndices
 steps = record {
   head = step fresh s1 [] (written headPage) headPage (pages .head) refl refl refl refl;
   tags = step s1 s2 [] (written tagsPage) tagsPage (pages .tags) refl refl refl refl;

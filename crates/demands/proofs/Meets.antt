@@ -27,6 +27,7 @@ use Rattle.stream.specs.Readings.{readings}
 use Rattle.stream.specs.State.{State}
 use Rattle.stream.specs.Rules.{firstPacket, verdict}
 use Rattle.stream.specs.Feed.{view, start, openAt, Taken, Fed, fedBy, feed}
+use Rattle.stream.specs.Packets.{samplesOf}
 use Rattle.stream.specs.Stream.{segments, segmentsOf, packetsFrom, leftFrom, openFrom, openAfter, headOf, afterComment, audioPages, Mark, markFrom, marksFrom, marks, initial, holesFrom, countFrom}
 use Rattle.stream.specs.Feedings.{Shown, stream, bytesIn, bytesOf, hasPosition}
 use Rattle.stream.specs.Statements.{pageShifted, audioIn, openedIn}
@@ -130,7 +131,7 @@ mark-on n h b p bs k =
     (marksFrom R n (leftFrom h (segmentsOf q)) bs)) (k .page)
 
 audio-marks-are : marksFrom R 1 [] audioBytes ≡ audioMarks
-unfolding marksFrom segmentsOf segments packetsFrom leftFrom completes ends last readings packetLengths parse shapeOf frameSamples configSamples coded codedTimes countedShape paddingFrom total
+unfolding marksFrom segmentsOf segments packetsFrom leftFrom completes ends last readings packetLengths parse shapeOf frameSamples configSamples coded codedTimes countedShape paddingFrom samplesOf total
 audio-marks-are =
     mark-on 1 [] (written firstPage) firstPage (drop 1 audioBytes) (pages .first)
     ∙ ap (λ (ms : List Mark). take 1 audioMarks ++ ms)
@@ -170,7 +171,7 @@ some-pages [] e = absurd (nil≢cons e)
 some-pages (x ∷ xs) e = omega arith
 
 pub meets : Meets
-unfolding F initial holesFrom countFrom tally from total
+unfolding F initial holesFrom countFrom tally from samplesOf total
 meets =
     let bytes-all = plan-octets R firstPlan start room plan-is-octets in
     record {

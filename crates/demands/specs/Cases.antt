@@ -68,7 +68,7 @@ abbrev some-pages : List Mark → Outcome → Case
 some-pages ps o = record { given = pages ps; outcome = o }
 
 abbrev page : ℕ → ℕ → Bool → Mark
-page g d last = record { granule = g; lengths = d ∷ []; last = last }
+page g d last = record { granule = g; measures = record { samples = d } ∷ []; last = last }
 
 abbrev pub cases : List Case
 cases =

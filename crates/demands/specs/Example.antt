@@ -132,7 +132,7 @@ unfoldable pub M : List Marked
 M = follow R (openedIn R F) room secondPlan
 
 abbrev mark : ℕ → Bool → Mark
-mark g last = record { granule = g; lengths = 480 ∷ []; last = last }
+mark g last = record { granule = g; measures = record { samples = 480 } ∷ []; last = last }
 
 abbrev pub audioMarks : List Mark
 audioMarks = mark 1000 false ∷ mark 3000 false ∷ mark 3100 true ∷ []

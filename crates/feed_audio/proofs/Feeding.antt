@@ -25,15 +25,16 @@ use Rattle.stream.specs.declared.Counts.{Counts}
 use Rattle.stream.specs.Page.{Page, last, whole, rest, pageWith}
 use Rattle.page_flags.specs.Flags.{isLastPage}
 use Rattle.stream.specs.Lent.{Lent, lentOf}
-use Rattle.stream.specs.Readings.{Readings}
+use Rattle.stream.specs.Readings.{Measure, Readings}
 use Rattle.stream.specs.State.{Carried, State}
-use Rattle.stream.specs.Packets.{begun, audioPackets, lengthsOf}
+use Rattle.stream.specs.Packets.{begun, audioPackets, measuresOf, samplesOf}
 use Rattle.stream.specs.Rules.{packetChecks, timeChecks, startOn, nextOn}
 use Rattle.stream.specs.Feed.{Reader, carriedIn, pendingOf, view, Entry, entries, entriesOn, countsOn, skipOn, tallyAfter, tallyOn, firstPiece, appended, carryAfter, listed, fedBy, readerOf, noCounts, FedIs, toldPage}
 use Rattle.stream.proofs.Lent.{same-lent}
 use Rattle.stream.proofs.Step.{gives≢refuses}
 use Rattle.stream.specs.declared.PageFed.the-variants.{Accepted, Refused}
-use Rattle.feed_audio.specs.Code.{Lists, countsBy, nextCore, onPast11}
+use Rattle.feed_audio.specs.Code.{measuresIn, Lists, countsBy, nextCore, onPast11}
+use Rattle.feed_audio.proofs.Measuring.{length-measures, samples-measures}
 use Rattle.feed_audio.proofs.Verdicts.{judging, placing, late}
 use Rattle.feed_audio.proofs.Seeing.{completing, going}
 
@@ -71,60 +72,60 @@ module _ (R : Readings) (k : Core) (t : Tally) (h : PageHeader) (l body : Bytes)
   -- ---- where a packet completes
 
   module _ (ps : List Bytes) (r : Option Bytes) where
-    abbrev lengths : List ℕ
-    lengths = map (R .samplesOf (k .streams)) ps
+    abbrev measures : List Measure
+    measures = map (R .measureOf (k .streams)) ps
 
     abbrev checks : List Check
-    checks = packetChecks R (k .streams) ps ++ judging k h lengths
+    checks = packetChecks R (k .streams) ps ++ judging k h measures
 
-    pub refused : (why : Refusal) {now : Bytes} → refuses (numberOf why) ≡ decided (firstOf checks) (placing k h lengths) → now ≡ joined
+    pub refused : (why : Refusal) {now : Bytes} → refuses (numberOf why) ≡ decided (firstOf checks) (placing k h measures) → now ≡ joined
         → FedIs (onPast11 R reader m state page (completing ps r)) (toldPage (Refused why)) (lentOf now (m .ends) (m .lengths) (m .kept))
-    unfolding audioPackets timeChecks lengthsOf last carryAfter
+    unfolding audioPackets timeChecks measuresOf last carryAfter
     refused why {now} q c = by (firstOf checks) refl q
       where
-        by : (v : Option Refusal) → firstOf checks ≡ v → refuses (numberOf why) ≡ decided v (placing k h lengths)
+        by : (v : Option Refusal) → firstOf checks ≡ v → refuses (numberOf why) ≡ decided v (placing k h measures)
             → FedIs (fedBy v R reader m state page (completing ps r)) (toldPage (Refused why)) (lentOf now (m .ends) (m .lengths) (m .kept))
         by none e q = absurd (gives≢refuses (sym q))
         by (some n) e q = record {
           told = ap refuses (ap numberIn q);
-          lent = same-lent (rw (late R k h (k .streams) ps lengths n e) c) refl refl refl;
+          lent = same-lent (rw (late R k h (k .streams) ps measures n e) c) refl refl refl;
         }
 
     module _ (n d : ℕ) (w : Placed) (lens : List ℕ) {left : ℕ} {es ss ks : List ℕ} {later : Bytes} {after : Core} {tally : Tally} {counts : Counts} (next : Pending)
-        (q : gives w ≡ decided (firstOf checks) (placing k h lengths)) (ds : take n lens ≡ lengths) (few : n ≤ length lens) (adds : d ≡ total (take n lens))
-        (x : Lists left es ss ks (t .skip) (take n lens) (entries (t .skip) (isLastPage (h .flags)) (h .granule) (w .from) (take n lens)) (m .ends) (m .lengths) (m .kept))
+        (q : gives w ≡ decided (firstOf checks) (placing k h measures)) (ds : measuresIn (take n lens) ≡ measures) (few : n ≤ length lens) (adds : d ≡ total (take n lens))
+        (x : Lists left es ss ks (t .skip) (take n lens) (entries (t .skip) (isLastPage (h .flags)) (h .granule) (w .from) (measuresIn (take n lens))) (m .ends) (m .lengths) (m .kept))
         (c : later ≡ carryAfter none state page (m .carry)) (a : after ≡ nextCore k h next (At (h .granule))) (p : pendingOf (begun r) ≡ next)
         (s : counts ≡ countsBy n d w (t .skip) (isLastPage (h .flags)) (h .granule)) (y : tally ≡ tallyAfter t left counts) where
-      sums : d ≡ total lengths
-      sums = adds ∙ ap total ds
+      sums : d ≡ samplesOf measures
+      sums = adds ∙ sym (samples-measures (take n lens)) ∙ ap samplesOf ds
 
-      count : n ≡ length lengths
-      count = sym (length-take-le n lens few) ∙ ap length ds
+      count : n ≡ length measures
+      count = sym (length-take-le n lens few) ∙ sym (length-measures (take n lens)) ∙ ap length ds
 
-      as-listed : (f : Entry → ℕ) (old : List ℕ) {list : List ℕ} → w ≡ placing k h lengths
-          → list ≡ listed f (entries (t .skip) (isLastPage (h .flags)) (h .granule) (w .from) (take n lens)) old
+      as-listed : (f : Entry → ℕ) (old : List ℕ) {list : List ℕ} → w ≡ placing k h measures
+          → list ≡ listed f (entries (t .skip) (isLastPage (h .flags)) (h .granule) (w .from) (measuresIn (take n lens))) old
           → list ≡ listed f (entriesOn R (t .skip) state page (completing ps r)) old
-      unfolding entriesOn startOn lengthsOf audioPackets last placed
+      unfolding entriesOn startOn measuresOf audioPackets last placed
       as-listed f old e k =
-          k ∙ ap₂ (λ (z : Placed) (es : List ℕ). listed f (entries (t .skip) (isLastPage (h .flags)) (h .granule) (z .from) es) old) e ds
+          k ∙ ap₂ (λ (z : Placed) (es : List Measure). listed f (entries (t .skip) (isLastPage (h .flags)) (h .granule) (z .from) es) old) e ds
 
-      as-counted : w ≡ placing k h lengths → counts ≡ countsOn R (t .skip) state page (completing ps r)
-      unfolding countsOn startOn lengthsOf audioPackets last placed
+      as-counted : w ≡ placing k h measures → counts ≡ countsOn R (t .skip) state page (completing ps r)
+      unfolding countsOn startOn measuresOf audioPackets last placed
       as-counted e =
           s ∙ ap (λ (i : ℕ). countsBy i d w (t .skip) (isLastPage (h .flags)) (h .granule)) count
-          ∙ ap₂ (λ (i : ℕ) (z : Placed). countsBy (length lengths) i z (t .skip) (isLastPage (h .flags)) (h .granule)) sums e
+          ∙ ap₂ (λ (i : ℕ) (z : Placed). countsBy (length measures) i z (t .skip) (isLastPage (h .flags)) (h .granule)) sums e
 
       pub accepted : FedIs (onPast11 R reader m state page (completing ps r)) (toldPage (Accepted after tally counts)) (lentOf later es ss ks)
-      unfolding audioPackets timeChecks lengthsOf last nextOn skipOn tallyOn
+      unfolding audioPackets timeChecks measuresOf last nextOn skipOn tallyOn
       accepted = by (firstOf checks) q
         where
-          by : (v : Option Refusal) → gives w ≡ decided v (placing k h lengths)
+          by : (v : Option Refusal) → gives w ≡ decided v (placing k h measures)
               → FedIs (fedBy v R reader m state page (completing ps r)) (toldPage (Accepted after tally counts)) (lentOf later es ss ks)
           by none q =
-              let e : w ≡ placing k h lengths = same-gives q in
+              let e : w ≡ placing k h measures = same-gives q in
               record {
                 told = same-told (a ∙ ap (λ (z : Pending). nextCore k h z (At (h .granule))) (sym p))
-                    (y ∙ ap₂ (tallyAfter t) (x .skips ∙ ap (λ (z : List ℕ). t .skip - total z) ds) (as-counted e)) (as-counted e);
+                    (y ∙ ap₂ (tallyAfter t) (x .skips ∙ ap (λ (z : ℕ). t .skip - z) (sym adds ∙ sums)) (as-counted e)) (as-counted e);
                 lent = same-lent c (as-listed (λ (e : Entry). e .end) (m .ends) e (x .ended))
                     (as-listed (λ (e : Entry). e .samples) (m .lengths) e (x .sized)) (as-listed (λ (e : Entry). e .kept) (m .kept) e (x .keeps));
               }
@@ -134,7 +135,7 @@ module _ (R : Readings) (k : Core) (t : Tally) (h : PageHeader) (l body : Bytes)
 
   pub piece-fed : {later : Bytes} {after : Core} (left : Carried) (next : Pending) → later ≡ carryAfter none state page (m .carry) → after ≡ nextCore k h next (k .position)
       → pendingOf left ≡ next → FedIs (onPast11 R reader m state page (going left)) (toldPage (Accepted after (tallyAfter t (t .skip) noCounts) noCounts)) (lentOf later (m .ends) (m .lengths) (m .kept))
-  unfolding audioPackets packetChecks timeChecks firstOf lengthsOf last nextOn skipOn tallyOn countsOn entriesOn entries total keptOf skippedOf trimmedOf tally
+  unfolding audioPackets packetChecks timeChecks firstOf measuresOf last nextOn skipOn tallyOn countsOn entriesOn entries samplesOf keptOf skippedOf trimmedOf tally
   piece-fed left next c a p = record {
     told = same-told (a ∙ ap (λ (z : Pending). nextCore k h z (k .position)) (sym p)) (ap (λ (z : ℕ). tallyAfter t z noCounts) (omega arith)) refl;
     lent = same-lent c refl refl refl;

@@ -9,15 +9,17 @@ use lib.ListN.{length, getD, take, drop, set, length-set, take-append-drop}
 use lib.Seq.{take-suc-set, drop-set-lt, drop-length, length-take-le}
 use Rattle.octets.specs.Octets.{total}
 use Rattle.granule.specs.Samples.{keptOf}
-use Rattle.stream.specs.Feed.{Entry, entries, listed}
-use Rattle.feed_audio.specs.Code.{Lists}
+use Rattle.stream.specs.Readings.{Measure}
+use Rattle.stream.specs.Feed.{Entry, entryOf, entries, listed}
+use Rattle.feed_audio.specs.Code.{measuresIn, Lists}
 use Rattle.feed_audio.proofs.Turns.{total-next}
+use Rattle.feed_audio.proofs.Measuring.{length-measures}
 use Rattle.feed_lacing.proofs.Values.{next}
 
-pub length-entries : (skip : ℕ) (end : Bool) (g at : ℕ) (ds : List ℕ) → length (entries skip end g at ds) ≡ length ds
+pub length-entries : (skip : ℕ) (end : Bool) (g at : ℕ) (ms : List Measure) → length (entries skip end g at ms) ≡ length ms
 unfolding entries
 length-entries skip end g at [] = refl
-length-entries skip end g at (d ∷ ds) = ap suc (length-entries (skip - d) end g (at + d) ds)
+length-entries skip end g at (m ∷ ms) = ap suc (length-entries (skip - m .samples) end g (at + m .samples) ms)
 
 pub record Stored (f : Entry → ℕ) (n : ℕ) (goal left : List Entry) (old list : List ℕ) (i : ℕ) : Type 0 where
   pub front : take i list ++ map f left ≡ map f goal
@@ -43,9 +45,9 @@ all-stored {f} {n} {goal} {old} {list} {i} s e size =
 -- ---- the three lists together
 
 pub record Listing (skip₀ : ℕ) (last : Bool) (g : ℕ) (goal : List Entry) (ds : List ℕ) (n : ℕ) (ends₀ lengths₀ kept₀ ends lengths kept : List ℕ) (at left i : ℕ) : Type 0 where
-  pub ended : Stored (λ (e : Entry). e .end) n goal (entries left last g at (drop i ds)) ends₀ ends i
-  pub sized : Stored (λ (e : Entry). e .samples) n goal (entries left last g at (drop i ds)) lengths₀ lengths i
-  pub keeps : Stored (λ (e : Entry). e .kept) n goal (entries left last g at (drop i ds)) kept₀ kept i
+  pub ended : Stored (λ (e : Entry). e .end) n goal (entries left last g at (measuresIn (drop i ds))) ends₀ ends i
+  pub sized : Stored (λ (e : Entry). e .samples) n goal (entries left last g at (measuresIn (drop i ds))) lengths₀ lengths i
+  pub keeps : Stored (λ (e : Entry). e .kept) n goal (entries left last g at (measuresIn (drop i ds))) kept₀ kept i
   pub skips : left - total (drop i ds) ≡ skip₀ - total ds
   pub fits : at + total (drop i ds) < 2 ^ 64
   pub within : i ≤ n
@@ -53,15 +55,16 @@ pub record Listing (skip₀ : ℕ) (last : Bool) (g : ℕ) (goal : List Entry) (
   pub goals : length goal ≡ n
 
 abbrev entryAt : ℕ → Bool → ℕ → ℕ → ℕ → Entry
-entryAt left last g at d = record { end = at + d; samples = d; kept = keptOf left last g at d }
+entryAt left last g at d = entryOf at (record { samples = d }) (keptOf left last g at d)
 
 module _ {skip₀ : ℕ} {last : Bool} {g : ℕ} {goal : List Entry} {ds : List ℕ} {n : ℕ} {ends₀ lengths₀ kept₀ ends lengths kept : List ℕ} {at left i : ℕ}
     (s : Listing skip₀ last g goal ds n ends₀ lengths₀ kept₀ ends lengths kept at left i) (h : i < n) {d : ℕ} (e : d ≡ getD ds i 0) where
   total-after : total (drop i ds) ≡ d + total (drop (i + 1) ds)
   total-after = total-next ds i d (omega (arith, s .count)) e
 
-  entries-next : entries left last g at (drop i ds) ≡ entryAt left last g at d ∷ entries (left - d) last g (at + d) (drop (i + 1) ds)
-  unfolding entries
+  entries-next : entries left last g at (measuresIn (drop i ds))
+      ≡ entryAt left last g at d ∷ entries (left - d) last g (at + d) (measuresIn (drop (i + 1) ds))
+  unfolding entries measuresIn
   entries-next = rw (next ds i d (omega (arith, s .count)) e)
 
   pub fits-next : at + d < 2 ^ 64
@@ -83,7 +86,7 @@ module _ {skip₀ : ℕ} {last : Bool} {g : ℕ} {goal : List Entry} {ds : List 
 -- at the end nothing is left
 pub all-listed : {skip₀ : ℕ} {last : Bool} {g : ℕ} {goal : List Entry} {ds : List ℕ} {n : ℕ} {ends₀ lengths₀ kept₀ ends lengths kept : List ℕ} {at left i : ℕ}
     → Listing skip₀ last g goal ds n ends₀ lengths₀ kept₀ ends lengths kept at left i → n ≤ i → Lists left ends lengths kept skip₀ ds goal ends₀ lengths₀ kept₀
-unfolding entries total
+unfolding entries measuresIn total
 all-listed {skip₀} {last} {g} {goal} {ds} {n} {ends₀} {lengths₀} {kept₀} {ends} {lengths} {kept} {at} {left} {i} s h =
     let e : i ≡ n = omega (arith, s .within) in
     let z : drop i ds ≡ [] = ap (λ (k : ℕ). drop k ds) (e ∙ sym (s .count)) ∙ drop-length ds in
@@ -95,7 +98,7 @@ all-listed {skip₀} {last} {g} {goal} {ds} {n} {ends₀} {lengths₀} {kept₀}
     }
 
 pub begins : (skip : ℕ) (last : Bool) (g from n : ℕ) (lens ends lengths kept : List ℕ) → n ≤ length lens → from + total (take n lens) < 2 ^ 64
-    → Listing skip last g (entries skip last g from (take n lens)) (take n lens) n ends lengths kept ends lengths kept from skip 0
+    → Listing skip last g (entries skip last g from (measuresIn (take n lens))) (take n lens) n ends lengths kept ends lengths kept from skip 0
 begins skip last g from n lens ends lengths kept h fit =
     let size : length (take n lens) ≡ n = length-take-le n lens h in
     record {
@@ -106,5 +109,5 @@ begins skip last g from n lens ends lengths kept h fit =
       fits = fit;
       within = omega arith;
       count = size;
-      goals = length-entries skip last g from (take n lens) ∙ size;
+      goals = length-entries skip last g from (measuresIn (take n lens)) ∙ length-measures (take n lens) ∙ size;
     }

@@ -1,5 +1,5 @@
--- The packets' lengths: what a turn of `measure` keeps, and what `measure_page` puts in front. Assumes nothing.
-use Prim.Native.Nat.{ℕ, _+_, _*_, _-_, _<_, _≤_}
+-- The packets' measures: what a turn of `measure` keeps, and what `measure_page` puts in front. Assumes nothing.
+use Prim.Native.Nat.{ℕ, suc, _+_, _*_, _-_, _<_, _≤_}
 use mathlib.Core.Path.{_≡_, refl, sym, ap, _∙_}
 use mathlib.Core.Bool.{Bool}
 use mathlib.Core.List.{List, [], _∷_, _++_, append-assoc, append-nil}
@@ -17,10 +17,12 @@ use Rattle.packet_reader.specs.declared.PacketRead.{PacketRead}
 use Rattle.packet_reader.specs.Streams.{readPacket, toldPacket}
 use Rattle.packet_reader.proofs.Legal.{legal-lengths}
 use Rattle.stream.specs.Page.{wholeFrom}
+use Rattle.stream.specs.Readings.{Measure}
+use Rattle.stream.specs.Packets.{samplesOf}
 use Rattle.stream.proofs.Pieces.{onwards}
 use Rattle.feed_audio.specs.declared.packets.Lengths.{Lengths}
 use Rattle.feed_audio.specs.declared.packets.Lengths.the-variants.{All, Refused}
-use Rattle.feed_audio.specs.Code.{inFront, andLater, measured, Measures}
+use Rattle.feed_audio.specs.Code.{measuresIn, inFront, andLater, measured, Measures}
 use Rattle.feed_audio.proofs.Turns.{total-next}
 use Rattle.feed_lacing.proofs.Values.{next}
 
@@ -31,12 +33,30 @@ unfolding total
 total-snoc [] d = omega arith
 total-snoc (e ∷ ds) d = omega (arith, total-snoc ds d)
 
-in-front-again : (ds : List ℕ) (d : ℕ) (t : Told (List ℕ)) → inFront ds (andLater (gives d) t) ≡ inFront (ds ++ (d ∷ [])) t
-in-front-again ds d (gives es) = rw append-assoc
-in-front-again ds d (refuses n) = refl
+-- one packet more
+measures-snoc : (ds : List ℕ) (d : ℕ) → measuresIn (ds ++ (d ∷ [])) ≡ measuresIn ds ++ (record { samples = d } ∷ [])
+unfolding measuresIn
+measures-snoc [] d = refl
+measures-snoc (e ∷ ds) d = ap (λ (ms : List Measure). record { samples = e } ∷ ms) (measures-snoc ds d)
 
--- the lengths of what is left, `bytes` of the values already read
-abbrev ahead : ℕ → ℕ → List ℕ → Bytes → Told (List ℕ)
+-- how many there are, and their samples
+pub length-measures : (ds : List ℕ) → length (measuresIn ds) ≡ length ds
+unfolding measuresIn
+length-measures [] = refl
+length-measures (d ∷ ds) = ap suc (length-measures ds)
+
+pub samples-measures : (ds : List ℕ) → samplesOf (measuresIn ds) ≡ total ds
+unfolding measuresIn samplesOf total
+samples-measures [] = refl
+samples-measures (d ∷ ds) = ap (λ (n : ℕ). d + n) (samples-measures ds)
+
+in-front-again : (ms : List Measure) (d : ℕ) (t : Told (List Measure))
+    → inFront ms (andLater (gives d) t) ≡ inFront (ms ++ (record { samples = d } ∷ [])) t
+in-front-again ms d (gives later) = rw append-assoc
+in-front-again ms d (refuses n) = refl
+
+-- the measures of what is left, `bytes` of the values already read
+abbrev ahead : ℕ → ℕ → List ℕ → Bytes → Told (List Measure)
 ahead streams bytes l body = measured streams (wholeFrom bytes l body)
 
 -- one value more
@@ -70,8 +90,8 @@ few-samples b n s e = legal-lengths b n s e .most
 
 -- ---- the loop
 
-pub record Measuring (streams : ℕ) (lacing body : List ℕ) (goal : Told (List ℕ)) (n m from : ℕ) (lens : List ℕ) (count d start bytes i : ℕ) : Type 0 where
-  pub tells : inFront (take count lens) (ahead streams bytes (drop i lacing) (drop start body)) ≡ goal
+pub record Measuring (streams : ℕ) (lacing body : List ℕ) (goal : Told (List Measure)) (n m from : ℕ) (lens : List ℕ) (count d start bytes i : ℕ) : Type 0 where
+  pub tells : inFront (measuresIn (take count lens)) (ahead streams bytes (drop i lacing) (drop start body)) ≡ goal
   pub adds : d ≡ total (take count lens)
   pub small : d ≤ 5760 * count
   pub few : count + from ≤ n + i
@@ -79,7 +99,7 @@ pub record Measuring (streams : ℕ) (lacing body : List ℕ) (goal : Told (List
   pub room : start + bytes + total (drop i lacing) ≤ length body
   pub size : length lens ≡ m
 
-module _ {streams : ℕ} {lacing body : List ℕ} {goal : Told (List ℕ)} {n m from : ℕ} {lens : List ℕ} {count d start bytes i : ℕ}
+module _ {streams : ℕ} {lacing body : List ℕ} {goal : Told (List Measure)} {n m from : ℕ} {lens : List ℕ} {count d start bytes i : ℕ}
     (g : Measuring streams lacing body goal n m from lens count d start bytes i) {v : ℕ} (e : v ≡ getD lacing i 0) (in-l : i < length lacing) where
   pub fits : start + (bytes + v) ≤ length body
   fits = omega (arith, total-next lacing i v in-l e)
@@ -101,7 +121,7 @@ module _ {streams : ℕ} {lacing body : List ℕ} {goal : Told (List ℕ)} {n m 
 
   module _ (h : v < 255) where
     told : {x : Told ℕ} → readPacket piece streams ≡ x
-        → inFront (take count lens) (andLater x (ahead streams 0 (drop (i + 1) lacing) (drop (start + (bytes + v)) body))) ≡ goal
+        → inFront (measuresIn (take count lens)) (andLater x (ahead streams 0 (drop (i + 1) lacing) (drop (start + (bytes + v)) body))) ≡ goal
     told {x} r =
         let k : start + (bytes + v) - start ≡ bytes + v = omega arith in
         let r' : readPacket (take (bytes + v) (drop start body)) streams ≡ x = rw k at r in
@@ -117,7 +137,7 @@ module _ {streams : ℕ} {lacing body : List ℕ} {goal : Told (List ℕ)} {n m 
         let few : s ≤ 5760 = few-samples piece streams s r in
         let front : take (count + 1) (set lens count s) ≡ take count lens ++ (s ∷ []) = rw (add-one count) (take-suc-set lens count s in-b) in
         record {
-          tells = rw (front, ← in-front-again) (told r);
+          tells = rw (front, measures-snoc (take count lens) s, ← in-front-again) (told r);
           adds = ap (λ (k : ℕ). k + s) (g .adds) ∙ sym (total-snoc (take count lens) s) ∙ ap total (sym front);
           small = omega arith;
           few = omega arith;
@@ -126,21 +146,21 @@ module _ {streams : ℕ} {lacing body : List ℕ} {goal : Told (List ℕ)} {n m 
           size = length-set lens count s ∙ g .size;
         }
 
-pub all-measured : {streams : ℕ} {lacing body : List ℕ} {goal : Told (List ℕ)} {n m from : ℕ} {lens : List ℕ} {count d start bytes i : ℕ}
+pub all-measured : {streams : ℕ} {lacing body : List ℕ} {goal : Told (List Measure)} {n m from : ℕ} {lens : List ℕ} {count d start bytes i : ℕ}
     → Measuring streams lacing body goal n m from lens count d start bytes i → length lacing ≤ i → count ≤ m → n ≤ 1 → length lacing ≤ 255
     → Measures (All count d) lens goal
 all-measured {streams} {lacing} {body} {goal} {n} {m} {from} {lens} {count} {d} {start} {bytes} {i} g h few one page =
-    let all : gives (take count lens) ≡ goal =
-    ap gives (sym (append-nil (take count lens))) ∙ (rw (drop-of-length-le lacing h, ahead-none streams bytes (drop start body)) at (g .tells)) in
+    let all : gives (measuresIn (take count lens)) ≡ goal =
+    ap gives (sym (append-nil (measuresIn (take count lens)))) ∙ (rw (drop-of-length-le lacing h, ahead-none streams bytes (drop start body)) at (g .tells)) in
     record { tells = all; sums = record { adds = g .adds; few = omega arith; small = omega arith } }
 
 -- ---- a page's packets, the held one first
 
-in-front-none : (t : Told (List ℕ)) → inFront [] t ≡ t
+in-front-none : (t : Told (List Measure)) → inFront [] t ≡ t
 in-front-none (gives es) = refl
 in-front-none (refuses n) = refl
 
-pub none-yet : {r : Lengths} {lens : List ℕ} {t : Told (List ℕ)} → Measures r lens (inFront [] t) → Measures r lens t
+pub none-yet : {r : Lengths} {lens : List ℕ} {t : Told (List Measure)} → Measures r lens (inFront [] t) → Measures r lens t
 none-yet {r} {lens} {t} m = rw in-front-none at m
 
 first-stored : (lens : List ℕ) (d : ℕ) → 0 < length lens → take 1 (set lens 0 d) ≡ d ∷ []
@@ -156,6 +176,6 @@ module _ (streams : ℕ) (b : Bytes) (bs : List Bytes) where
   first-refused lens e = record { tells = sym (ap (λ (x : Told ℕ). andLater x (measured streams bs)) e); sums = tt }
 
   pub first-measured : {d : ℕ} {r : Lengths} {lens : List ℕ} (lens₀ : List ℕ) → readPacket b streams ≡ gives d → 0 < length lens₀
-      → Measures r lens (inFront (take 1 (set lens₀ 0 d)) (measured streams bs)) → Measures r lens (measured streams (b ∷ bs))
-  unfolding measured
+      → Measures r lens (inFront (measuresIn (take 1 (set lens₀ 0 d))) (measured streams bs)) → Measures r lens (measured streams (b ∷ bs))
+  unfolding measured measuresIn
   first-measured {d} lens₀ e h m = rw e (rw (first-stored lens₀ d h) at m)

@@ -18,22 +18,22 @@ use Rattle.stream.specs.declared.Counts.{Counts}
 use Rattle.stream.specs.Page.{wholeFrom, restFrom, whole, rest, pageWith}
 use Rattle.page_flags.specs.Flags.{isLastPage}
 use Rattle.stream.specs.Lent.{Lent, lentOf}
-use Rattle.stream.specs.Readings.{readings}
+use Rattle.stream.specs.Readings.{Measure, readings}
 use Rattle.stream.specs.State.{Carried}
 use Rattle.stream.specs.Packets.{Seen, join, seen}
 use Rattle.stream.specs.Feed.{carriedIn, view, entries, tallyAfter, firstPiece, appended, withRest, carryAfter, readerOf, noCounts, FedIs, Taken, toldPage}
 use Rattle.stream.specs.declared.PageFed.the-variants.{Accepted, Refused}
 use Rattle.feed_audio.specs.declared.packets.Piece.{Piece}
 use Rattle.feed_audio.specs.declared.times.Timed.the-variants.{Packets, Refused as Untimed}
-use Rattle.feed_audio.specs.Code.{firstFrom, countOf, measured, packetsBy, heldEnd, timedBy, Times, Lists, countsBy, restOf, begunBy, stillBy, freshBy, nextCore, onPast11, fedPast11, AnyCompletes, NoneCompletes}
+use Rattle.feed_audio.specs.Code.{firstFrom, countOf, measuresIn, measured, packetsBy, heldEnd, timedBy, Times, Lists, countsBy, restOf, begunBy, stillBy, freshBy, nextCore, onPast11, fedPast11, AnyCompletes, NoneCompletes}
 use Rattle.feed_audio.proofs.Splitting.{Ended, Open, ways}
 use Rattle.feed_audio.proofs.Seeing.{completing, going, ended, first-ended, rest-ended, begun-rest, first-open, rest-open, Carries, carries}
-use Rattle.feed_audio.proofs.Verdicts.{judges, lengths-are}
+use Rattle.feed_audio.proofs.Verdicts.{judges, measures-are}
 use Rattle.feed_audio.proofs.Feeding.{inAudio, in-audio, refused, accepted, piece-fed}
 use Rattle.feed_lacing.specs.Scan.{tailBy}
 
 -- what the place says of the trimmed samples
-pub place-trimmed : (k : Core) (h : PageHeader) {n d : ℕ} {w : Placed} {lens : List ℕ} {x : Told (List ℕ)} → Times (Packets n d w) lens k h x
+pub place-trimmed : (k : Core) (h : PageHeader) {n d : ℕ} {w : Placed} {lens : List ℕ} {x : Told (List Measure)} → Times (Packets n d w) lens k h x
     → w .trimmed ≡ trimmedOf (isLastPage (h .flags)) (h .granule) (w .from) d
 unfolding placed
 place-trimmed k h {n} {d} {w} m = rw (m .runs .place)
@@ -98,14 +98,14 @@ module _ (crc : Bytes → ℕ) (k : Core) (t : Tally) (h : PageHeader) (l body c
 
     pub completing-accepted : {lens : List ℕ} {i d skip : ℕ} {w : Placed} {es ss ks later : List ℕ} {after : Core} {tally : Tally} {counts : Counts}
         → Times (Packets i d w) lens k h (measured (countOf (k .streams)) (packetsBy (k .pending) (first .values) (first .bytes) l body now))
-        → Lists skip es ss ks (t .skip) (take i lens) (entries (t .skip) (isLastPage (h .flags)) (h .granule) (w .from) (take i lens)) ends lengths kept
+        → Lists skip es ss ks (t .skip) (take i lens) (entries (t .skip) (isLastPage (h .flags)) (h .granule) (w .from) (measuresIn (take i lens))) ends lengths kept
         → later ≡ withRest (restOf left body) now → counts ≡ countsBy i d w (t .skip) (isLastPage (h .flags)) (h .granule)
         → after ≡ nextCore k h (begunBy left) (At (h .granule)) → tally ≡ tallyAfter t skip counts
         → FedIs (fedPast11 (readings crc) (readerOf k t) lent (pageWith h l body)) (toldPage (Accepted after tally counts)) (lentOf later es ss ks)
     unfolding whole rest carryAfter
     completing-accepted {lens} {i} {d} {skip} {w} {es} {ss} {ks} {later} {after} {tally} {counts} m x c z a y =
         let told = m .tells ∙ ap (λ (ps : List Bytes). timedBy (measured (countOf (k .streams)) ps) k h) packets-are ∙ judges crc k h few packets in
-        let ds = lengths-are crc (k .streams) few packets (take i lens) (m .runs .lengths ∙ ap (measured (countOf (k .streams))) packets-are) in
+        let ds = measures-are crc (k .streams) few packets (measuresIn (take i lens)) (m .runs .measures ∙ ap (measured (countOf (k .streams))) packets-are) in
         let left-is : left ≡ tail = s .scanned .tail in
         let within : tail ≤ length body = subst (λ (n : ℕ). n ≤ length body) left-is (s .left) in
         let later-is =

@@ -8,7 +8,7 @@ use native.Mathlib.Omega.{arith}
 use borrow.Author.Tests.{eqb-true, eqb-false}
 use lib.Dec.{eqb}
 use Rattle.octets.specs.Pick.{pick}
-use Rattle.octets.specs.Octets.{Bytes, total}
+use Rattle.octets.specs.Octets.{Bytes}
 use Rattle.refusal.specs.declared.Refusal.{Refusal}
 use Rattle.refusal.specs.declared.Refusal.the-variants.{IllegalPacket, MixedLengths}
 use Rattle.refusal.specs.Checks.{Check, _when_, firstOf, orElse}
@@ -21,7 +21,8 @@ use Rattle.granule.specs.declared.Placed.{Placed}
 use Rattle.granule.specs.Judging.{judgeChecks, placed, judge}
 use Rattle.stream.specs.declared.Core.{Core}
 use Rattle.page_flags.specs.Flags.{isLastPage}
-use Rattle.stream.specs.Readings.{Readings, readings}
+use Rattle.stream.specs.Readings.{Measure, Readings, readings}
+use Rattle.stream.specs.Packets.{samplesOf}
 use Rattle.stream.specs.Rules.{packetChecks}
 use Rattle.stream.specs.Feed.{isLate}
 use Rattle.stream.proofs.Clear.{some≢none}
@@ -61,52 +62,52 @@ reads crc n h b =
     sym (readings-agree crc .packet b (countOf n) (k .low) (k .high)) ∙ ap (λ (i : ℕ). readAt i b) (k .same)
 
 -- one packet in front of others
-one-more : (a m : Bool) (d : ℕ) (o : Option Refusal) (ds : List ℕ)
+one-more : (a m : Bool) (d : ℕ) (o : Option Refusal) (ds : List Measure)
     → andLater (decided (pick a (some IllegalPacket) (pick m (some MixedLengths) none)) d) (decided o ds)
-    ≡ decided (pick a (some IllegalPacket) (pick m (some MixedLengths) o)) (d ∷ ds)
+    ≡ decided (pick a (some IllegalPacket) (pick m (some MixedLengths) o)) (record { samples = d } ∷ ds)
 one-more true m d o ds = refl
 one-more false true d o ds = refl
 one-more false false d none ds = refl
 one-more false false d (some r) ds = refl
 
 module _ (crc : Bytes → ℕ) (n : ℕ) (few : n ≤ 255) where
-  abbrev lengthsIn : List Bytes → List ℕ
-  lengthsIn bs = map (readings crc .samplesOf n) bs
+  abbrev measuring : List Bytes → List Measure
+  measuring bs = map (readings crc .measureOf n) bs
 
-  measures : (bs : List Bytes) → measured (countOf n) bs ≡ decided (firstOf (packetChecks (readings crc) n bs)) (lengthsIn bs)
+  measures : (bs : List Bytes) → measured (countOf n) bs ≡ decided (firstOf (packetChecks (readings crc) n bs)) (measuring bs)
   unfolding measured readings packetChecks firstOf
   measures [] = refl
   measures (b ∷ bs) =
       ap₂ andLater (reads crc n few b) (measures bs)
-      ∙ one-more (not (not (isIllegal (lengthsOf (n - 1) b)))) (isMixed (lengthsOf (n - 1) b)) (firstLength (lengthsOf (n - 1) b)) (firstOf (packetChecks (readings crc) n bs)) (lengthsIn bs)
+      ∙ one-more (not (not (isIllegal (lengthsOf (n - 1) b)))) (isMixed (lengthsOf (n - 1) b)) (firstLength (lengthsOf (n - 1) b)) (firstOf (packetChecks (readings crc) n bs)) (measuring bs)
 
 -- ---- with 19, 18 and 17
 
-abbrev pub judging : Core → PageHeader → List ℕ → List Check
-judging k h ds = judgeChecks (k .position) (k .preskip) (h .granule) (total ds) (isLastPage (h .flags))
+abbrev pub judging : Core → PageHeader → List Measure → List Check
+judging k h ds = judgeChecks (k .position) (k .preskip) (h .granule) (samplesOf ds) (isLastPage (h .flags))
 
-abbrev pub placing : Core → PageHeader → List ℕ → Placed
-placing k h ds = placed (k .position) (isLastPage (h .flags)) (h .granule) (total ds)
+abbrev pub placing : Core → PageHeader → List Measure → Placed
+placing k h ds = placed (k .position) (isLastPage (h .flags)) (h .granule) (samplesOf ds)
 
 pub judges : (crc : Bytes → ℕ) (k : Core) (h : PageHeader) → k .streams ≤ 255 → (bs : List Bytes)
     → timedBy (measured (countOf (k .streams)) bs) k h
-    ≡ decided (firstOf (packetChecks (readings crc) (k .streams) bs ++ judging k h (map (readings crc .samplesOf (k .streams)) bs))) (placing k h (map (readings crc .samplesOf (k .streams)) bs))
+    ≡ decided (firstOf (packetChecks (readings crc) (k .streams) bs ++ judging k h (map (readings crc .measureOf (k .streams)) bs))) (placing k h (map (readings crc .measureOf (k .streams)) bs))
 unfolding judge
 judges crc k h few bs =
-    let ds : List ℕ = map (readings crc .samplesOf (k .streams)) bs in
+    let ds : List Measure = map (readings crc .measureOf (k .streams)) bs in
     let cs : List Check = packetChecks (readings crc) (k .streams) bs in
-    ap (λ (t : Told (List ℕ)). timedBy t k h) (measures crc (k .streams) few bs) ∙ by (firstOf cs) ds
+    ap (λ (t : Told (List Measure)). timedBy t k h) (measures crc (k .streams) few bs) ∙ by (firstOf cs) ds
     ∙ ap (λ (o : Option Refusal). decided o (placing k h ds)) (sym (first-of-append cs (judging k h ds)))
   where
-    by : (o : Option Refusal) (ds : List ℕ) → timedBy (decided o ds) k h ≡ decided (orElse o (firstOf (judging k h ds))) (placing k h ds)
+    by : (o : Option Refusal) (ds : List Measure) → timedBy (decided o ds) k h ≡ decided (orElse o (firstOf (judging k h ds))) (placing k h ds)
     by none ds = refl
     by (some r) ds = refl
 
--- the lengths, where none of 15 and 16 refuses
-pub lengths-are : (crc : Bytes → ℕ) (n : ℕ) → n ≤ 255 → (bs : List Bytes) (ds : List ℕ) → gives ds ≡ measured (countOf n) bs → ds ≡ map (readings crc .samplesOf n) bs
-lengths-are crc n few bs ds e = by (firstOf (packetChecks (readings crc) n bs)) (e ∙ measures crc n few bs)
+-- the measures, where none of 15 and 16 refuses
+pub measures-are : (crc : Bytes → ℕ) (n : ℕ) → n ≤ 255 → (bs : List Bytes) (ds : List Measure) → gives ds ≡ measured (countOf n) bs → ds ≡ map (readings crc .measureOf n) bs
+measures-are crc n few bs ds e = by (firstOf (packetChecks (readings crc) n bs)) (e ∙ measures crc n few bs)
   where
-    by : (o : Option Refusal) → gives ds ≡ decided o (map (readings crc .samplesOf n) bs) → ds ≡ map (readings crc .samplesOf n) bs
+    by : (o : Option Refusal) → gives ds ≡ decided o (map (readings crc .measureOf n) bs) → ds ≡ map (readings crc .measureOf n) bs
     by none q = cc
     by (some r) q = absurd (gives≢refuses q)
 
@@ -131,7 +132,7 @@ unfolding packetChecks
 all-late R n [] position preskip g d last = (refl, (refl, (refl, tt)))
 all-late R n (b ∷ bs) position preskip g d last = (refl, (refl, all-late R n bs position preskip g d last))
 
-pub late : (R : Readings) (k : Core) (h : PageHeader) (n : ℕ) (bs : List Bytes) (ds : List ℕ) (r : Refusal)
+pub late : (R : Readings) (k : Core) (h : PageHeader) (n : ℕ) (bs : List Bytes) (ds : List Measure) (r : Refusal)
     → firstOf (packetChecks R n bs ++ judging k h ds) ≡ some r → isLate r ≡ true
 late R k h n bs ds r e =
-    first-late (packetChecks R n bs ++ judging k h ds) (all-late R n bs (k .position) (k .preskip) (h .granule) (total ds) (isLastPage (h .flags))) r e
+    first-late (packetChecks R n bs ++ judging k h ds) (all-late R n bs (k .position) (k .preskip) (h .granule) (samplesOf ds) (isLastPage (h .flags))) r e

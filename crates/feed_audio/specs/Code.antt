@@ -27,9 +27,9 @@ use Rattle.stream.specs.declared.Counts.{Counts}
 use Rattle.stream.specs.Page.{Page, wholeFrom}
 use Rattle.page_flags.specs.Flags.{isLastPage}
 use Rattle.stream.specs.Lent.{Lent}
-use Rattle.stream.specs.Readings.{Readings}
+use Rattle.stream.specs.Readings.{Measure, Readings}
 use Rattle.stream.specs.State.{State}
-use Rattle.stream.specs.Packets.{Seen, seen, isLong, audioPackets}
+use Rattle.stream.specs.Packets.{Seen, seen, isLong, audioPackets, samplesOf}
 use Rattle.stream.specs.Rules.{packetChecks, timeChecks}
 use Rattle.stream.specs.Feed.{Reader, view, carriedIn, Entry, listed, Fed, fedBy}
 use Rattle.feed_audio.specs.declared.packets.Piece.{Piece}
@@ -51,28 +51,33 @@ unfoldable pub firstFrom : ℕ → Bytes → Piece
 firstFrom n [] = record { values = 0; bytes = n; ends = false }
 firstFrom n (v ∷ l) = pick (ltb v 255) (record { values = 1; bytes = n + v; ends = true }) (oneMore (firstFrom (n + v) l))
 
--- ---- the packets' lengths
+-- ---- the packets' measures
 
 -- 0 streams are read as 1
 abbrev pub countOf : ℕ → ℕ
 countOf n = pick (eqb n 0) 1 n
 
--- some lengths in front of others
-abbrev pub inFront : List ℕ → Told (List ℕ) → Told (List ℕ)
-inFront ds (gives es) = gives (ds ++ es)
-inFront ds (refuses n) = refuses n
+-- packets by the list of their lengths
+unfoldable pub measuresIn : List ℕ → List Measure
+measuresIn [] = []
+measuresIn (d ∷ ds) = record { samples = d } ∷ measuresIn ds
 
-abbrev pub andLater : Told ℕ → Told (List ℕ) → Told (List ℕ)
-andLater (gives d) t = inFront (d ∷ []) t
+-- some measures in front of others
+abbrev pub inFront : List Measure → Told (List Measure) → Told (List Measure)
+inFront ms (gives later) = gives (ms ++ later)
+inFront ms (refuses n) = refuses n
+
+abbrev pub andLater : Told ℕ → Told (List Measure) → Told (List Measure)
+andLater (gives d) t = inFront (record { samples = d } ∷ []) t
 andLater (refuses n) t = refuses n
 
--- the lengths of packets of n streams, or the first refusal among them
-unfoldable pub measured : ℕ → List Bytes → Told (List ℕ)
+-- the measures of packets of n streams, or the first refusal among them
+unfoldable pub measured : ℕ → List Bytes → Told (List Measure)
 measured n [] = gives []
 measured n (b ∷ bs) = andLater (readPacket b n) (measured n bs)
 
-abbrev pub toldLengths : Lengths → List ℕ → Told (List ℕ)
-toldLengths (All n d) lens = gives (take n lens)
+abbrev pub toldLengths : Lengths → List ℕ → Told (List Measure)
+toldLengths (All n d) lens = gives (measuresIn (take n lens))
 toldLengths (Refused r) lens = refuses (numberOf r)
 
 -- n lengths sum to d
@@ -85,7 +90,7 @@ abbrev pub SumsIn : Lengths → List ℕ → Type 0
 SumsIn (All n d) lens = Sums n d lens
 SumsIn (Refused r) lens = Unit {0}
 
-pub record Measures (r : Lengths) (lens : List ℕ) (t : Told (List ℕ)) : Type 0 where
+pub record Measures (r : Lengths) (lens : List ℕ) (t : Told (List Measure)) : Type 0 where
   pub tells : toldLengths r lens ≡ t
   pub sums : SumsIn r lens
 
@@ -124,9 +129,9 @@ pub record Measurable (pending : Pending) (values bytes : ℕ) (l body carry len
 
 -- ---- 15 to 19
 
--- the lengths being measured as t
-abbrev pub timedBy : Told (List ℕ) → Core → PageHeader → Told Placed
-timedBy (gives ds) k h = judge (k .position) (k .preskip) (h .granule) (total ds) (isLastPage (h .flags))
+-- the packets being measured as t
+abbrev pub timedBy : Told (List Measure) → Core → PageHeader → Told Placed
+timedBy (gives ms) k h = judge (k .position) (k .preskip) (h .granule) (samplesOf ms) (isLastPage (h .flags))
 timedBy (refuses n) k h = refuses n
 
 abbrev pub toldTimed : Timed → Told Placed
@@ -134,18 +139,18 @@ toldTimed (Packets n d w) = gives w
 toldTimed (Untimed r) = refuses (numberOf r)
 
 -- accepted: the lengths are at the start of the list, and the stamps fit
-pub record Runs (n d : ℕ) (w : Placed) (lens : List ℕ) (k : Core) (h : PageHeader) (t : Told (List ℕ)) : Type 0 where
-  pub lengths : gives (take n lens) ≡ t
+pub record Runs (n d : ℕ) (w : Placed) (lens : List ℕ) (k : Core) (h : PageHeader) (t : Told (List Measure)) : Type 0 where
+  pub measures : gives (measuresIn (take n lens)) ≡ t
   pub adds : d ≡ total (take n lens)
   pub few : n ≤ length lens
   pub place : w ≡ placed (k .position) (isLastPage (h .flags)) (h .granule) d
   pub fits : w .from + total (take n lens) < 2 ^ 64
 
-abbrev pub RunsIn : Timed → List ℕ → Core → PageHeader → Told (List ℕ) → Type 0
+abbrev pub RunsIn : Timed → List ℕ → Core → PageHeader → Told (List Measure) → Type 0
 RunsIn (Packets n d w) lens k h t = Runs n d w lens k h t
 RunsIn (Untimed r) lens k h t = Unit {0}
 
-pub record Times (r : Timed) (lens : List ℕ) (k : Core) (h : PageHeader) (t : Told (List ℕ)) : Type 0 where
+pub record Times (r : Timed) (lens : List ℕ) (k : Core) (h : PageHeader) (t : Told (List Measure)) : Type 0 where
   pub tells : toldTimed r ≡ timedBy t k h
   pub runs : RunsIn r lens k h t
 

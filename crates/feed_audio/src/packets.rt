@@ -3,7 +3,8 @@ ghost use mathlib.Core.Path.{_≡_};
 ghost use Prim.Native.Nat.{_+_, _<_, _≤_};
 ghost use lib.ListN.{length, take, drop};
 ghost use Rattle.stream.specs.Page.{wholeFrom};
-ghost use Rattle.feed_audio.specs.Code.{firstFrom, countOf, inFront, measured, Measures, Ready, packetsBy, Measurable};
+ghost use Rattle.feed_audio.specs.Code.{firstFrom, countOf, measuresIn, inFront, measured, Measures};
+ghost use Rattle.feed_audio.specs.Code.{Ready, packetsBy, Measurable};
 use packet_reader::PacketRead;
 use refusal::Refusal;
 use stream::Pending;
@@ -68,7 +69,7 @@ fn measure(
 ) -> Lengths
     requires { ⌜ Ready from at n d (now lacing) (now body) (now lens) ⌝ }
     ensures { λ r. ⌜
-        Measures r (now (lens .exit)) (inFront (take n (now (lens .entry)))
+        Measures r (now (lens .exit)) (inFront (measuresIn (take n (now (lens .entry))))
         (measured streams (wholeFrom 0 (drop from (now (lacing .entry))) (drop at (now (body .entry)))))) ⌝ }
 {
     let mut count = n;

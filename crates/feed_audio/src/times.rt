@@ -4,7 +4,8 @@ ghost use Prim.Native.Nat.{_-_, _<_, _^_};
 ghost use lib.ListN.{take};
 ghost use Rattle.granule.specs.Samples.{trimmedOf};
 ghost use Rattle.stream.specs.Feed.{entries};
-ghost use Rattle.feed_audio.specs.Code.{countOf, measured, packetsBy, Measurable, Times, Room, Lists, countsBy};
+ghost use Rattle.feed_audio.specs.Code.{countOf, measuresIn, measured, packetsBy, Measurable, Times, Room, Lists};
+ghost use Rattle.feed_audio.specs.Code.{countsBy};
 use super::packets;
 use super::packets::Lengths;
 use super::packets::Piece;
@@ -92,7 +93,7 @@ pub(crate) fn list_packets(
     requires { ⌜ Room n from (now lens) (now ends) (now lengths) (now kept) ⌝ }
     ensures { λ r. ⌜
         Lists r (now (ends .exit)) (now (lengths .exit)) (now (kept .exit)) skip (take n (now (lens .entry)))
-        (entries skip last g from (take n (now (lens .entry))))
+        (entries skip last g from (measuresIn (take n (now (lens .entry)))))
         (now (ends .entry)) (now (lengths .entry)) (now (kept .entry)) ⌝ }
 {
     let mut at = from;

@@ -5,7 +5,7 @@ use mathlib.Core.Bool.{Bool, true, false, true≢false}
 use mathlib.Core.List.{[]}
 use mathlib.Core.Option.{Option, none, some}
 use Rattle.octets.specs.Pick.{pick}
-use Rattle.octets.specs.Octets.{Bytes, total}
+use Rattle.octets.specs.Octets.{Bytes}
 use Rattle.refusal.specs.declared.Refusal.{Refusal}
 use Rattle.refusal.specs.declared.Refusal.the-variants.{PacketTooLong, HeaderShape, WrongGranule}
 use Rattle.refusal.specs.Checks.{firstOf}
@@ -20,7 +20,7 @@ use Rattle.stream.specs.Page.{Page, granuleOf, whole, rest}
 use Rattle.stream.specs.Shape.{shapeOf, wrongShape}
 use Rattle.stream.specs.Readings.{Readings}
 use Rattle.stream.specs.State.{State, inHeaders}
-use Rattle.stream.specs.Packets.{Seen, isLong, audioPackets, lengthsOf}
+use Rattle.stream.specs.Packets.{Seen, isLong, audioPackets, measuresOf, samplesOf}
 use Rattle.stream.specs.Rules.{granuleMost, lacingChecks, headerChecks, nextOn}
 use Rattle.stream.specs.Lent.{Lent, withCarry}
 use Rattle.stream.specs.Feed.{Reader as Known, coreOf, entries, entriesOn, countsOn, skipOn, tallyAfter, tallyOn, firstPiece, appended, isLate, carryAfter, fedBy, noCounts, FedIs, toldPage}
@@ -77,17 +77,17 @@ module _ (R : Readings) (t : State) (p : Page) (x : Seen) where
 
     -- an accepted header page
     module _ (inside : inHeaders (t .phase) ≡ true) where
-      no-lengths : lengthsOf R t x ≡ []
-      unfolding lengthsOf audioPackets
-      no-lengths = rw inside
+      no-measures : measuresOf R t x ≡ []
+      unfolding measuresOf audioPackets
+      no-measures = rw inside
 
       no-counts : (skip : ℕ) → countsOn R skip t p x ≡ noCounts
-      unfolding countsOn total keptOf skippedOf trimmedOf tally
-      no-counts skip = rw (no-lengths, inside)
+      unfolding countsOn samplesOf keptOf skippedOf trimmedOf tally
+      no-counts skip = rw (no-measures, inside)
 
       no-entries : (skip : ℕ) → entriesOn R skip t p x ≡ []
       unfolding entriesOn entries
-      no-entries skip = rw no-lengths
+      no-entries skip = rw no-measures
 
       pub accepted : (v : Option Refusal) (core : Core) (skip : ℕ) (carry : Bytes) → v ≡ none → core ≡ coreOf (nextOn R t p x)
           → skip ≡ skipOn R (r .tally .skip) t p x → carry ≡ carryAfter none t p (m .carry)

@@ -13,7 +13,7 @@ use Rattle.refusal.specs.Checks.{Check, _when_, firstOf}
 use Rattle.stream.specs.Page.{Page, pageOf}
 use Rattle.stream.specs.Readings.{readings}
 use Rattle.stream.specs.State.{State, expecting}
-use Rattle.stream.specs.Packets.{Seen, seen, lengthsOf}
+use Rattle.stream.specs.Packets.{Seen, seen, measuresOf}
 use Rattle.stream.specs.Rules.{packetChecks, timeChecks, checksOn, startOn, nextOn}
 use Rattle.stream.specs.Feed.{Reader, view, entriesOn, countsOn, skipOn, tallyOn, fedBy, feed}
 use Rattle.stream.specs.Lent.{Lent, isShort}
@@ -27,12 +27,12 @@ module _ (c d : Bytes → ℕ) where
   same-packets n (b ∷ bs) = rw (same-packets n bs)
 
   same-fed : (v : Option Refusal) (r : Reader) (m : Lent) (t : State) (p : Page) (x : Seen) → fedBy v (readings c) r m t p x ≡ fedBy v (readings d) r m t p x
-  unfolding readings nextOn skipOn tallyOn countsOn entriesOn startOn lengthsOf
+  unfolding readings nextOn skipOn tallyOn countsOn entriesOn startOn measuresOf
   same-fed none r m t p x = refl
   same-fed (some n) r m t p x = refl
 
   same-checks : (t : State) (b : Bytes) (x : Seen) → c b ≡ d b → checksOn (readings c) t b x ≡ checksOn (readings d) t b x
-  unfolding checksOn timeChecks readings lengthsOf
+  unfolding checksOn timeChecks readings measuresOf
   same-checks t b x e = rw (e, same-packets (t .streams) _)
 
   pub same-feeding : (r : Reader) (m : Lent) (b : Bytes) → c b ≡ d b → feed (readings c) r m b ≡ feed (readings d) r m b

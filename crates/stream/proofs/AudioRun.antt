@@ -21,12 +21,12 @@ use Rattle.granule.proofs.Tallies.{tally-same}
 use Rattle.granule.proofs.Counting.{skip-after}
 use Rattle.stream.specs.declared.Counts.{Counts}
 use Rattle.stream.specs.Page.{Page, pageOf, continued, last, granuleOf, ends, completes}
-use Rattle.stream.specs.Readings.{Readings}
+use Rattle.stream.specs.Readings.{Measure, Readings}
 use Rattle.stream.specs.State.{Carried, State, unfinished, expecting}
-use Rattle.stream.specs.Packets.{seen, audioPackets, lengthsOf}
+use Rattle.stream.specs.Packets.{seen, audioPackets, measuresOf, samplesOf}
 use Rattle.stream.specs.Rules.{startOn, afterPosition, nextOn, verdict, after}
-use Rattle.stream.specs.Feed.{Entry, entries, entriesOn, countsOn, skipOn}
-use Rattle.stream.specs.Stream.{segments, segmentsOf, packetsFrom, leftFrom, openFrom, openAfter, leftAfter, carriedOf, endedAfter, Mark, decoded, lengthsFrom, markFrom, marksFrom, lastFrom, positionFrom, decodedIn, sampleTrimmed, sampleSkipped, sampleKept, Listing, entriesFrom, countsFrom, listingFrom, audioListings}
+use Rattle.stream.specs.Feed.{Entry, entryOf, entries, entriesOn, countsOn, skipOn}
+use Rattle.stream.specs.Stream.{segments, segmentsOf, packetsFrom, leftFrom, openFrom, openAfter, leftAfter, carriedOf, endedAfter, Mark, decoded, measuresFrom, markFrom, marksFrom, lastFrom, positionFrom, decodedIn, sampleTrimmed, sampleSkipped, sampleKept, Listing, entriesFrom, countsFrom, listingFrom, audioListings}
 use Rattle.stream.specs.Feedings.{Shown, bytesOf}
 use Rattle.stream.proofs.Passed.{Shaped, shaped}
 use Rattle.stream.proofs.Pieces.{page-completes}
@@ -72,9 +72,9 @@ no-packets h (v ∷ l) body e = by (ltb v 255) e (no-packets (h ++ take v body) 
     by true e again = absurd (true≢false e)
     by false e again = again e
 
-pub no-samples : (R : Readings) (n : ℕ) (h : Bytes) (p : Page) → completes p ≡ false → total (lengthsFrom R n h p) ≡ 0
-unfolding completes segmentsOf total
-no-samples R n h p e = ap (λ (ws : List Bytes). total (map (R .samplesOf n) ws)) (no-packets h (p .lacing) (p .body) e)
+pub no-samples : (R : Readings) (n : ℕ) (h : Bytes) (p : Page) → completes p ≡ false → samplesOf (measuresFrom R n h p) ≡ 0
+unfolding completes segmentsOf samplesOf
+no-samples R n h p e = ap (λ (ws : List Bytes). samplesOf (map (R .measureOf n) ws)) (no-packets h (p .lacing) (p .body) e)
 
 -- ---- samples still to skip, or decoded samples before
 
@@ -97,12 +97,13 @@ pub trimmed-same : (n : ℕ) (m : Mark) (at d : ℕ) → trimmedOf (m .last) (m 
 unfolding trimmedOf
 trimmed-same n m at d = refl
 
-entries-same : (k n : ℕ) (m : Mark) (at : ℕ) (ds : List ℕ) → entries (k - n) (m .last) (m .granule) at ds ≡ entriesFrom k n m at ds
+entries-same : (k n : ℕ) (m : Mark) (at : ℕ) (ds : List Measure) → entries (k - n) (m .last) (m .granule) at ds ≡ entriesFrom k n m at ds
 unfolding entries entriesFrom
 entries-same k n m at [] = refl
 entries-same k n m at (d ∷ ds) =
-    ap₂ (λ (a : ℕ) (l : List Entry). record { end = at + d; samples = d; kept = a } ∷ l) (kept-same k n m at d)
-    (ap (λ (s : ℕ). entries s (m .last) (m .granule) (at + d) ds) (less k n d) ∙ entries-same k (n + d) m (at + d) ds)
+    ap₂ (λ (a : ℕ) (l : List Entry). entryOf at d a ∷ l) (kept-same k n m at (d .samples))
+    (ap (λ (s : ℕ). entries s (m .last) (m .granule) (at + d .samples) ds) (less k n (d .samples))
+    ∙ entries-same k (n + d .samples) m (at + d .samples) ds)
 
 -- ---- one audio page
 
@@ -113,12 +114,12 @@ module _ (R : Readings) (head : Head) (b : Bytes) (o : Bool) (h : Bytes) (positi
   abbrev now : State
   now = audio false (carriedOf o h) position serial next head
 
-  abbrev here : List ℕ
-  here = lengthsFrom R (head .streams) h page
+  abbrev here : List Measure
+  here = measuresFrom R (head .streams) h page
 
-  pub here-lengths : lengthsOf R now (seen now page) ≡ here
-  unfolding lengthsOf audioPackets seen
-  here-lengths = ap (map (R .samplesOf (head .streams))) (joins o h page begun .packets)
+  pub here-measures : measuresOf R now (seen now page) ≡ here
+  unfolding measuresOf audioPackets seen
+  here-measures = ap (map (R .measureOf (head .streams))) (joins o h page begun .packets)
 
   pub here-completes : seen now page .completes ≡ completes page
   unfolding seen
@@ -136,58 +137,58 @@ module _ (R : Readings) (head : Head) (b : Bytes) (o : Bool) (h : Bytes) (positi
       ∙ ap₂ (λ (s q : ℕ). audio (last page) (carriedOf (openFrom o (segmentsOf page)) (leftFrom h (segmentsOf page)))
       (afterPosition (completes page) position (granuleOf page)) s ((q + 1) % 2 ^ 32) head) (e .serial) (e .sequence)
 
-  pub audio-skip : (skip : ℕ) → skipIn R skip now b ≡ skip - total here
+  pub audio-skip : (skip : ℕ) → skipIn R skip now b ≡ skip - samplesOf here
   unfolding skipOn expecting
-  audio-skip skip = ap (λ (ds : List ℕ). skip - total ds) here-lengths
+  audio-skip skip = ap (λ (ds : List Measure). skip - samplesOf ds) here-measures
 
   -- what is told of it, n samples being decoded before
   abbrev mark : Mark
   mark = markFrom R (head .streams) h page
 
   abbrev start : ℕ
-  start = from position (last page) (granuleOf page) (total here)
+  start = from position (last page) (granuleOf page) (samplesOf here)
 
   start-same : startOn R now page (seen now page) ≡ start
   unfolding startOn
-  start-same = ap (λ (ds : List ℕ). from position (last page) (granuleOf page) (total ds)) here-lengths
+  start-same = ap (λ (ds : List Measure). from position (last page) (granuleOf page) (samplesOf ds)) here-measures
 
   entries-here : (k n : ℕ) → entriesOn R (k - n) now page (seen now page) ≡ entriesFrom k n mark start here
   unfolding entriesOn
   entries-here k n =
-      ap₂ (λ (at : ℕ) (ds : List ℕ). entries (k - n) (last page) (granuleOf page) at ds) start-same here-lengths ∙ entries-same k n mark start here
+      ap₂ (λ (at : ℕ) (ds : List Measure). entries (k - n) (last page) (granuleOf page) at ds) start-same here-measures ∙ entries-same k n mark start here
 
-  -- the counts of lengths ds
-  countsBy : ℕ → ℕ → List ℕ → Bool → Counts
+  -- the counts of measures ds
+  countsBy : ℕ → ℕ → List Measure → Bool → Counts
   countsBy skip at ds t = record {
     packets = length ds;
-    samples = total ds;
-    kept = keptOf skip (last page) (granuleOf page) at (total ds);
-    skipped = skippedOf skip (last page) (granuleOf page) at (total ds);
-    trimmed = trimmedOf (last page) (granuleOf page) at (total ds);
-    hole = pick t (hole position (granuleOf page) (total ds)) 0;
+    samples = samplesOf ds;
+    kept = keptOf skip (last page) (granuleOf page) at (samplesOf ds);
+    skipped = skippedOf skip (last page) (granuleOf page) at (samplesOf ds);
+    trimmed = trimmedOf (last page) (granuleOf page) at (samplesOf ds);
+    hole = pick t (hole position (granuleOf page) (samplesOf ds)) 0;
   }
 
   -- the same with other words for three of them
   countsWith : ℕ → ℕ → ℕ → Counts
   countsWith a s c = record {
     packets = length here;
-    samples = total here;
+    samples = samplesOf here;
     kept = a;
     skipped = s;
     trimmed = c;
-    hole = pick (completes page) (hole position (granuleOf page) (total here)) 0;
+    hole = pick (completes page) (hole position (granuleOf page) (samplesOf here)) 0;
   }
 
   counts-here : (k n : ℕ) → countsOn R (k - n) now page (seen now page)
       ≡ countsFrom k n mark start (pick (completes page) (hole position (granuleOf page) (decoded mark)) 0)
   unfolding countsOn countsBy countsWith
   counts-here k n =
-      ap₂ (λ (at : ℕ) (ds : List ℕ). countsBy (k - n) at ds (seen now page .completes)) start-same here-lengths
+      ap₂ (λ (at : ℕ) (ds : List Measure). countsBy (k - n) at ds (seen now page .completes)) start-same here-measures
       ∙ ap (countsBy (k - n) start here) here-completes
-      ∙ ap₂ (λ (a s : ℕ). countsWith a s (trimmedOf (last page) (granuleOf page) start (total here))) (kept-same k n mark start (total here))
-      (skipped-same k n mark start (total here))
-      ∙ ap (countsWith (tally (sampleKept k n mark start) (total here)) (tally (sampleSkipped k n mark start) (total here)))
-      (trimmed-same n mark start (total here))
+      ∙ ap₂ (λ (a s : ℕ). countsWith a s (trimmedOf (last page) (granuleOf page) start (samplesOf here))) (kept-same k n mark start (samplesOf here))
+      (skipped-same k n mark start (samplesOf here))
+      ∙ ap (countsWith (tally (sampleKept k n mark start) (samplesOf here)) (tally (sampleSkipped k n mark start) (samplesOf here)))
+      (trimmed-same n mark start (samplesOf here))
 
   pub audio-listing : (k n : ℕ) → listingOn R (k - n) now b ≡ listingFrom k position n (completes page) mark
   unfolding expecting
@@ -218,10 +219,10 @@ mark-on R n h b ms position true e = position-from (granuleOf (pageOf b)) ms
 mark-on R n h b ms position false e = refl
 
 decoded-on : (R : Readings) (n : ℕ) (h b : Bytes) (ms : List Mark) (t : Bool) → completes (pageOf b) ≡ t
-    → total (lengthsFrom R n h (pageOf b)) + decodedIn ms ≡ decodedIn (pick t (markFrom R n h (pageOf b) ∷ ms) ms)
+    → samplesOf (measuresFrom R n h (pageOf b)) + decodedIn ms ≡ decodedIn (pick t (markFrom R n h (pageOf b) ∷ ms) ms)
 unfolding decodedIn
 decoded-on R n h b ms true e = refl
-decoded-on R n h b ms false e = let z : total (lengthsFrom R n h (pageOf b)) ≡ 0 = no-samples R n h (pageOf b) e in omega arith
+decoded-on R n h b ms false e = let z : samplesOf (measuresFrom R n h (pageOf b)) ≡ 0 = no-samples R n h (pageOf b) e in omega arith
 
 pub audio-run : (R : Readings) (head : Head) (xs : List Shown) (ended o : Bool) (h : Bytes) (position : Position) (serial next n : ℕ)
     → Begun o h → next < 2 ^ 32 → Lists R (audio ended (carriedOf o h) position serial next head) (head .preskip - n) xs
@@ -240,7 +241,7 @@ audio-run R head (x ∷ xs) false o h position serial next n k small f =
     let o′ : Bool = openFrom o (segmentsOf p) in
     let h′ : Bytes = leftFrom h (segmentsOf p) in
     let at : Position = afterPosition (completes p) position (granuleOf p) in
-    let d : ℕ = total (lengthsFrom R (head .streams) h p) in
+    let d : ℕ = samplesOf (measuresFrom R (head .streams) h p) in
     let then : State = audio (last p) (carriedOf o′ h′) at serial ((next + 1) % 2 ^ 32) head in
     let ms : List Mark = marksFrom R (head .streams) h′ bs in
     let state : after R now b ≡ then = audio-after R head b o h position serial next k (f .0) in

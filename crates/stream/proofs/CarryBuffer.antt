@@ -27,7 +27,7 @@ use Rattle.stream.specs.declared.Core.{Core}
 use Rattle.stream.specs.Page.{Page, pageOf, continued, last, granuleOf, completes, wholeFrom, restFrom, whole, rest}
 use Rattle.stream.specs.Readings.{Readings}
 use Rattle.stream.specs.State.{Carried, nothing, dropped, held, State, isEnded, unfinished, expectingIn, expecting}
-use Rattle.stream.specs.Packets.{Seen, begun, join, isLong, audioPackets, lengthsOf}
+use Rattle.stream.specs.Packets.{Seen, begun, join, isLong, audioPackets, measuresOf, samplesOf}
 use Rattle.limits.specs.Limits.{packetMax}
 use Rattle.stream.specs.Lent.{Lent, isShort}
 use Rattle.stream.specs.Rules.{shapeChecks, packetChecks, audioCompletes, timeChecks, checksOn, verdict}
@@ -262,7 +262,7 @@ time-in : (R : Readings) (s : State) (g : Page) (x : Seen) → AllIn (timeChecks
 unfolding timeChecks
 time-in R s g x = by (audioCompletes s x)
   where
-    by : (t : Bool) → AllIn (pick t (judgeChecks (s .position) (s .preskip) (granuleOf g) (total (lengthsOf R s x)) (last g)) [])
+    by : (t : Bool) → AllIn (pick t (judgeChecks (s .position) (s .preskip) (granuleOf g) (samplesOf (measuresOf R s x)) (last g)) [])
     by true = omega arith
     by false = tt
 

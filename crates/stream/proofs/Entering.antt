@@ -20,7 +20,7 @@ use Rattle.stream.specs.declared.Pending.the-variants.{Nothing}
 use Rattle.stream.specs.Page.{Page, pageOf, continued, last, granuleOf, completes}
 use Rattle.stream.specs.Readings.{Readings}
 use Rattle.stream.specs.State.{Carried, nothing, dropped, held, State, unfinished, expecting}
-use Rattle.stream.specs.Packets.{Seen, seen, audioPackets, lengthsOf}
+use Rattle.stream.specs.Packets.{Seen, seen, audioPackets, measuresOf, samplesOf}
 use Rattle.stream.specs.Rules.{checksOn, startOn, stampsOn, nextOn, verdict, after, stamped}
 use Rattle.stream.specs.Feed.{Reader, carriedIn, view, Taken, Fed, fedBy, feed}
 use Rattle.stream.specs.Lent.{Lent, isShort}
@@ -97,16 +97,16 @@ module _ (R : Readings) (b : Bytes) (cr : Carried) (serial next streams preskip 
   }
 
   time-on : (p q : Position) (x : Seen) → hasNone q ≡ true → last page ≡ false → Timed R (on p) b x → Timed R (on q) b x
-  unfolding lengthsOf audioPackets
+  unfolding measuresOf audioPackets
   time-on p q x n l k = record {
     stands = rw l refl;
     skips = rw l refl;
-    reaches = rw l (small-none q (granuleOf page) (total (map (R .samplesOf streams) (x .packets))) n
-        (small-room p (granuleOf page) (total (map (R .samplesOf streams) (x .packets))) (rw l at (k .reaches))));
+    reaches = rw l (small-none q (granuleOf page) (samplesOf (map (R .measureOf streams) (x .packets))) n
+        (small-room p (granuleOf page) (samplesOf (map (R .measureOf streams) (x .packets))) (rw l at (k .reaches))));
   }
 
   stamps-on : (p q : Position) (x : Seen) → last page ≡ false → stampsOn R (on q) page x ≡ stampsOn R (on p) page x
-  unfolding stampsOn startOn from lengthsOf audioPackets
+  unfolding stampsOn startOn from measuresOf audioPackets
   stamps-on p q x l = rw l refl
 
   next-on : (p q : Position) (x : Seen) → x .completes ≡ true → nextOn R (on q) page x ≡ nextOn R (on p) page x

@@ -21,7 +21,7 @@ use Rattle.stream.specs.declared.Shape.the-variants.{Ends, GoesOn, Other
 use Rattle.stream.specs.Page.{Page, pageOf, completes, whole, rest}
 use Rattle.stream.specs.Readings.{Readings}
 use Rattle.stream.specs.State.{Carried, nothing, dropped, held, State, unfinished, expecting}
-use Rattle.stream.specs.Packets.{begun, join, seen, audioPackets, lengthsOf}
+use Rattle.stream.specs.Packets.{begun, join, seen, audioPackets, measuresOf, samplesOf}
 use Rattle.stream.specs.Rules.{nextOn, verdict, after}
 use Rattle.stream.specs.Shape.{shapeOf, isOther}
 use Rattle.stream.specs.Feed.{entries, entriesOn, countsOn, skipOn}
@@ -108,7 +108,7 @@ module _ (R : Readings) (head : Head) (b : Bytes) (o : Bool) (h : Bytes) (serial
 
   -- nothing is told of it
   pub comment-lists-nothing : (skip : ℕ) → listingOn R skip now b ≡ nothingListed
-  unfolding entriesOn countsOn entries lengthsOf audioPackets expecting total keptOf skippedOf trimmedOf tally
+  unfolding entriesOn countsOn entries measuresOf samplesOf audioPackets expecting keptOf skippedOf trimmedOf tally
   comment-lists-nothing skip = refl
 
   pub comment-skip : (skip : ℕ) → skipIn R skip now b ≡ skip

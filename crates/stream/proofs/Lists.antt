@@ -16,9 +16,9 @@ use Rattle.page_layout.specs.Page.{lacingOf, countOf}
 use Rattle.page_lacing.specs.Lacing.{cutFrom}
 use Rattle.stream.specs.declared.Counts.{Counts}
 use Rattle.stream.specs.Page.{pageOf, wholeFrom, whole, rest}
-use Rattle.stream.specs.Readings.{Readings}
+use Rattle.stream.specs.Readings.{Measure, Readings}
 use Rattle.stream.specs.State.{Carried, nothing, dropped, held, State, inHeaders}
-use Rattle.stream.specs.Packets.{Seen, join, seen, audioPackets, lengthsOf}
+use Rattle.stream.specs.Packets.{Seen, join, seen, audioPackets, measuresOf}
 use Rattle.stream.specs.Rules.{verdict}
 use Rattle.stream.specs.Feed.{Reader, view, Entry, entries, entriesOn, countsOn, listed, Taken, Fed, fedBy, feed}
 use Rattle.stream.specs.Lent.{Lent, isShort}
@@ -61,8 +61,8 @@ length-map : {A B : Type 0} (f : A → B) (l : List A) → length (map f l) ≡ 
 length-map f [] = refl
 length-map f (x ∷ l) = ap suc (length-map f l)
 
-pub audio-few : (R : Readings) (s : State) (b : Bytes) → Octets b → length (lengthsOf R s (seen s (pageOf b))) ≤ listMax
-unfolding lengthsOf audioPackets seen whole
+pub audio-few : (R : Readings) (s : State) (b : Bytes) → Octets b → length (measuresOf R s (seen s (pageOf b))) ≤ listMax
+unfolding measuresOf audioPackets seen whole
 audio-few R s b o = by (inHeaders (s .phase))
   where
     all : length (join (s .carried) (whole (pageOf b)) (rest (pageOf b)) .packets) ≤ listMax
@@ -73,14 +73,14 @@ audio-few R s b o = by (inHeaders (s .phase))
         let d : length (pageOf b .lacing) ≤ listMax = lacing-few b o in
         omega arith
 
-    by : (t : Bool) → length (map (R .samplesOf (s .streams)) (pick t [] (join (s .carried) (whole (pageOf b)) (rest (pageOf b)) .packets))) ≤ listMax
+    by : (t : Bool) → length (map (R .measureOf (s .streams)) (pick t [] (join (s .carried) (whole (pageOf b)) (rest (pageOf b)) .packets))) ≤ listMax
     by true = omega arith
-    by false = rw (length-map (R .samplesOf (s .streams)) (join (s .carried) (whole (pageOf b)) (rest (pageOf b)) .packets)) all
+    by false = rw (length-map (R .measureOf (s .streams)) (join (s .carried) (whole (pageOf b)) (rest (pageOf b)) .packets)) all
 
-length-entries : (skip : ℕ) (end : Bool) (g at : ℕ) (ds : List ℕ) → length (entries skip end g at ds) ≡ length ds
+length-entries : (skip : ℕ) (end : Bool) (g at : ℕ) (ds : List Measure) → length (entries skip end g at ds) ≡ length ds
 unfolding entries
 length-entries skip end g at [] = refl
-length-entries skip end g at (d ∷ ds) = ap suc (length-entries (skip - d) end g (at + d) ds)
+length-entries skip end g at (d ∷ ds) = ap suc (length-entries (skip - d .samples) end g (at + d .samples) ds)
 
 -- ---- the lists
 
@@ -99,11 +99,11 @@ shows-by R r m b t none o e =
     let s : State = expected r (m .carry) b in
     let x : Seen = saw r (m .carry) b in
     let es : List Entry = entriesOn R (r .tally .skip) s (pageOf b) x in
-    let size : length es ≡ length (lengthsOf R s x) = length-entries _ _ _ _ (lengthsOf R s x) in
+    let size : length es ≡ length (measuresOf R s x) = length-entries _ _ _ _ (measuresOf R s x) in
     let same : countsOn R (r .tally .skip) s (pageOf b) x ≡ t .counts = ap (λ (w : Taken). w .counts) (same-taken e) in
     record {
       packets = ap (λ (c : Counts). c .packets) (sym same) ∙ sym size;
-      few = (let k : length (lengthsOf R s x) ≤ listMax = audio-few R s b o in omega arith);
+      few = (let k : length (measuresOf R s x) ≤ listMax = audio-few R s b o in omega arith);
       ends = has-first (λ (n : Entry). n .end) es (m .ends);
       lengths = has-first (λ (n : Entry). n .samples) es (m .lengths);
       kept = has-first (λ (n : Entry). n .kept) es (m .kept);

@@ -11,7 +11,7 @@ use Rattle.granule.specs.Judging.{granuleWrong, isJoined, isUnset, tooSmall, ju
 use Rattle.stream.specs.Page.{pageOf, continued, last, granuleOf}
 use Rattle.stream.specs.Readings.{Readings}
 use Rattle.stream.specs.State.{State, isEnded, isFirst, isComment, unfinished}
-use Rattle.stream.specs.Packets.{Seen, isLong, audioPackets, lengthsOf}
+use Rattle.stream.specs.Packets.{Seen, isLong, audioPackets, measuresOf, samplesOf}
 use Rattle.stream.specs.Rules.{wrongFlags, granuleMost, firstPacket, audioCompletes, shapeChecks, packetChecks, timeChecks, checksOn}
 use Rattle.stream.specs.Shape.{shapeOf, wrongShape}
 use Rattle.stream.proofs.Clear.{Clear, clear, passes, past, clear-left, clear-right}
@@ -37,7 +37,7 @@ pub record Shaped (R : Readings) (s : State) (b : Bytes) (x : Seen) : Type 0 whe
 pub record Timed (R : Readings) (s : State) (b : Bytes) (x : Seen) : Type 0 where
   pub stands : (last (pageOf b) && isJoined (s .position)) ≡ false
   pub skips : (last (pageOf b) && (isUnset (s .position) && ltb (granuleOf (pageOf b)) (s .preskip))) ≡ false
-  pub reaches : tooSmall (s .position) (last (pageOf b)) (granuleOf (pageOf b)) (total (lengthsOf R s x)) ≡ false
+  pub reaches : tooSmall (s .position) (last (pageOf b)) (granuleOf (pageOf b)) (samplesOf (measuresOf R s x)) ≡ false
 
 module _ (R : Readings) (s : State) (b : Bytes) (x : Seen) where
   abbrev later : List Check
@@ -75,7 +75,7 @@ module _ (R : Readings) (s : State) (b : Bytes) (x : Seen) where
       ∙ past (packetChecks R (s .streams) (audioPackets s x)) (timeChecks R s (pageOf b) x) (k .packets)
 
   abbrev judging : List Check
-  judging = judgeChecks (s .position) (s .preskip) (granuleOf (pageOf b)) (total (lengthsOf R s x)) (last (pageOf b))
+  judging = judgeChecks (s .position) (s .preskip) (granuleOf (pageOf b)) (samplesOf (measuresOf R s x)) (last (pageOf b))
 
   pub timed : audioCompletes s x ≡ true → firstOf (checksOn R s b x) ≡ none → Timed R s b x
   unfolding checksOn timeChecks

@@ -14,7 +14,7 @@ use Rattle.stream.specs.declared.Phase.the-variants.{First, Comment, Aud
 use Rattle.stream.specs.Page.{Page, pageOf, continued, last, whole, rest}
 use Rattle.stream.specs.Readings.{Readings}
 use Rattle.stream.specs.State.{State, isFirst, expectingIn, expecting}
-use Rattle.stream.specs.Packets.{Seen, seen, audioPackets, lengthsOf}
+use Rattle.stream.specs.Packets.{Seen, seen, audioPackets, measuresOf}
 use Rattle.stream.specs.Rules.{timeChecks, checksOn, startOn, stampsOn, nextOn, verdict, after, stamped}
 use Rattle.stream.specs.Shape.{wrongShape}
 use Rattle.stream.specs.Feedings.{feedIn}
@@ -47,11 +47,11 @@ module _ (R : Readings) (n : ℕ) (b c : Bytes) (k : BytesShifted R n b c) where
 
   -- the sequence number is looked at by one check alone
   same-checks : (s : State) (x : Seen) → s .next < 2 ^ 32 → checksOn R (stateShifted n s) c x ≡ checksOn R s b x
-  unfolding checksOn timeChecks lengthsOf audioPackets continued last whole rest
+  unfolding checksOn timeChecks measuresOf audioPackets continued last whole rest
   same-checks s x small = rw (k .page, k .isPage, k .isChecksummed, same-shifted n (pageOf b .header .sequence) (s .next) (k .small) small) refl
 
   same-stamps : (s : State) (x : Seen) → stampsOn R (stateShifted n s) (pageOf c) x ≡ stampsOn R s (pageOf b) x
-  unfolding stampsOn startOn lengthsOf audioPackets last
+  unfolding stampsOn startOn measuresOf audioPackets last
   same-stamps s x = rw (k .page) refl
 
   same-next : (s : State) (x : Seen) → nextOn R (stateShifted n s) (pageOf c) x ≡ stateShifted n (nextOn R s (pageOf b) x)

@@ -21,7 +21,7 @@ use Rattle.stream.specs.declared.Pending.{Pending}
 use Rattle.stream.specs.declared.Pending.the-variants.{Nothing, Held, Dropped}
 use Rattle.stream.specs.declared.Core.{Core}
 use Rattle.stream.specs.Page.{Page, pageOf, whole, rest}
-use Rattle.stream.specs.Readings.{Readings}
+use Rattle.stream.specs.Readings.{Measure, Readings}
 use Rattle.stream.specs.State.{Carried, held, State, isEnded, expectingIn, expecting}
 use Rattle.stream.specs.Packets.{Seen, seen, isLong}
 use Rattle.limits.specs.Limits.{packetMax, listMax}
@@ -88,10 +88,12 @@ pub record Stepped (R : Readings) (r : Reader) (s : State) (b : Bytes) (v : Opti
   pub view : view (readerBy (f .told) r .core) (f .lent .carry) ≡ stateBy v s (after R s b)
   pub told : tell f ≡ tellBy v (stamped R s b)
 
-pub entries-stamps : (skip : ℕ) (end : Bool) (g at : ℕ) (ds : List ℕ) → map stampOf (entries skip end g at ds) ≡ stamps at ds
+pub entries-stamps : (skip : ℕ) (end : Bool) (g at : ℕ) (ds : List Measure) → map stampOf (entries skip end g at ds) ≡ stamps at ds
 unfolding entries stamps
 entries-stamps skip end g at [] = refl
-entries-stamps skip end g at (d ∷ ds) = ap (λ (l : List Stamp). record { end = at + d; samples = d } ∷ l) (entries-stamps (skip - d) end g (at + d) ds)
+entries-stamps skip end g at (d ∷ ds) =
+    ap (λ (l : List Stamp). record { end = at + d .samples; samples = d .samples } ∷ l)
+    (entries-stamps (skip - d .samples) end g (at + d .samples) ds)
 
 -- the view after an accepted page is the state that follows
 accepted-view : (R : Readings) (r : Reader) (c b : Bytes) → packetMax ≤ length c → verdict R (view (r .core) c) b ≡ none

@@ -15,7 +15,7 @@ use Rattle.stream.specs.declared.Phase.the-variants.{First, Comment}
 use Rattle.stream.specs.Page.{Page, pageOf}
 use Rattle.stream.specs.Readings.{Readings}
 use Rattle.stream.specs.State.{Carried, nothing, State, expecting}
-use Rattle.stream.specs.Packets.{seen, audioPackets, lengthsOf}
+use Rattle.stream.specs.Packets.{seen, audioPackets, measuresOf, samplesOf}
 use Rattle.stream.specs.Rules.{firstPacket, nextOn, verdict, after}
 use Rattle.stream.specs.Feed.{start, entries, entriesOn, countsOn, skipOn}
 use Rattle.stream.specs.Stream.{segmentsOf, leftFrom, openFrom, openAfter, leftAfter, carriedOf, headOf, afterComment, audioPages, phaseOf, serialOf, marksFrom, marks, positionFrom, decodedIn, Listing, nothingListed, listings}
@@ -59,7 +59,7 @@ module _ (R : Readings) (b : Bytes) (bs : List Bytes) where
   first-skip = ap (λ (ws : List Bytes). R .headOf (firstPacket ws) .preskip) (joins false [] page (λ w. refl) .packets)
 
   first-lists-nothing : listingOn R 0 fresh b ≡ nothingListed
-  unfolding entriesOn countsOn entries lengthsOf audioPackets expecting total keptOf skippedOf trimmedOf tally
+  unfolding entriesOn countsOn entries measuresOf samplesOf audioPackets expecting keptOf skippedOf trimmedOf tally
   first-lists-nothing = refl
 
 -- ---- the stream

@@ -17,12 +17,13 @@ use Rattle.granule.specs.Samples.{tally}
 use Rattle.granule.specs.Judging.{tooSmall, from, hole}
 use Rattle.granule.proofs.Tallies.{tally-same, tally-parts}
 use Rattle.stream.specs.Page.{pageOf, last, granuleOf, completes}
-use Rattle.stream.specs.Readings.{Readings}
+use Rattle.stream.specs.Packets.{samplesOf}
+use Rattle.stream.specs.Readings.{Measure, Readings}
 use Rattle.stream.specs.State.{State, expecting}
 use Rattle.stream.specs.Packets.{seen}
 use Rattle.stream.specs.Rules.{afterPosition, verdict}
 use Rattle.stream.specs.Feed.{start, Entry}
-use Rattle.stream.specs.Stream.{segmentsOf, leftFrom, openFrom, carriedOf, headOf, afterComment, audioPages, Mark, decoded, lengthsFrom, markFrom, marksFrom, marks, holesFrom, decodedIn, sampleTrimmed, sampleSkipped, sampleKept, countFrom, Listing, nothingListed, entriesFrom, listingFrom, audioListings, commentListings, listings, serialOf}
+use Rattle.stream.specs.Stream.{segmentsOf, leftFrom, openFrom, carriedOf, headOf, afterComment, audioPages, Mark, decoded, measuresFrom, markFrom, marksFrom, marks, holesFrom, decodedIn, sampleTrimmed, sampleSkipped, sampleKept, countFrom, Listing, nothingListed, entriesFrom, listingFrom, audioListings, commentListings, listings, serialOf}
 use Rattle.stream.specs.Feedings.{Shown, stream, bytesIn, bytesOf}
 use Rattle.stream.specs.Statements.{StreamCounts}
 use Rattle.stream.proofs.Passed.{timed}
@@ -30,7 +31,7 @@ use Rattle.stream.proofs.Segments.{Begun, begun-left}
 use Rattle.stream.proofs.TwoReaders.{audio}
 use Rattle.stream.proofs.Joining.{afterAll, ended-none}
 use Rattle.stream.proofs.Runs.{Lists, skipIn}
-use Rattle.stream.proofs.AudioRun.{no-samples, here-lengths, here-completes, audio-after}
+use Rattle.stream.proofs.AudioRun.{no-samples, here-measures, here-completes, audio-after}
 use Rattle.stream.proofs.HeaderRun.{id-bytes, Arrived}
 use Rattle.stream.proofs.Theorem1.{fresh, Whole, whole-stream}
 use Rattle.stream.proofs.MarkCounts.{Legal, shares, spans, closed-form}
@@ -65,15 +66,15 @@ module _ (R : Readings) (head : Head) (f : Listing → ℕ) (over : ℕ → Posi
           ≡ over k q (marksFrom R (head .streams) (leftFrom h (segmentsOf (pageOf b))) bs))
           → f (listingFrom (head .preskip) position n t (markFrom R (head .streams) h (pageOf b)))
           + sum f (audioListings R head (leftFrom h (segmentsOf (pageOf b))) (afterPosition t position (granuleOf (pageOf b)))
-          (n + total (lengthsFrom R (head .streams) h (pageOf b))) bs)
+          (n + samplesOf (measuresFrom R (head .streams) h (pageOf b))) bs)
           ≡ over n position (pick t (markFrom R (head .streams) h (pageOf b) ∷ marksFrom R (head .streams)
           (leftFrom h (segmentsOf (pageOf b))) bs) (marksFrom R (head .streams) (leftFrom h (segmentsOf (pageOf b))) bs))
       by true e again =
           ap (λ (z : ℕ). f (listingFrom (head .preskip) position n true (markFrom R (head .streams) h (pageOf b))) + z)
-          (again (At (granuleOf (pageOf b))) (n + total (lengthsFrom R (head .streams) h (pageOf b))))
+          (again (At (granuleOf (pageOf b))) (n + samplesOf (measuresFrom R (head .streams) h (pageOf b))))
           ∙ sym (done n position (markFrom R (head .streams) h (pageOf b)) (marksFrom R (head .streams) (leftFrom h (segmentsOf (pageOf b))) bs))
       by false e again =
-          let z : total (lengthsFrom R (head .streams) h (pageOf b)) ≡ 0 = no-samples R (head .streams) h (pageOf b) e in
+          let z : samplesOf (measuresFrom R (head .streams) h (pageOf b)) ≡ 0 = no-samples R (head .streams) h (pageOf b) e in
           ap₂ (λ (a k : ℕ). a + sum f (audioListings R head (leftFrom h (segmentsOf (pageOf b))) position k bs))
           (going n position (markFrom R (head .streams) h (pageOf b)) z) (ap (λ (k : ℕ). n + k) z ∙ add-zero n)
           ∙ zero-add (sum f (audioListings R head (leftFrom h (segmentsOf (pageOf b))) position n bs)) ∙ again position n
@@ -114,15 +115,16 @@ kept-later k n m at d j =
     let a : at + suc (d + j) ≡ at + d + suc j = omega arith in
     ap₂ (λ (x y : ℕ). not (m .last && ltb (m .granule) x) && not (ltb y k)) a (sym (add-assoc n d j))
 
-entries-kept : (k n : ℕ) (m : Mark) (at : ℕ) (ds : List ℕ)
-    → total (map (λ (e : Entry). e .kept) (entriesFrom k n m at ds)) ≡ tally (sampleKept k n m at) (total ds)
-unfolding entriesFrom total tally
+entries-kept : (k n : ℕ) (m : Mark) (at : ℕ) (ds : List Measure)
+    → total (map (λ (e : Entry). e .kept) (entriesFrom k n m at ds)) ≡ tally (sampleKept k n m at) (samplesOf ds)
+unfolding entriesFrom total samplesOf tally
 entries-kept k n m at [] = refl
 entries-kept k n m at (d ∷ ds) =
-    ap (λ (z : ℕ). tally (sampleKept k n m at) d + z)
-    (entries-kept k (n + d) m (at + d) ds
-    ∙ sym (tally-same (λ (j : ℕ). sampleKept k n m at (d + j)) (sampleKept k (n + d) m (at + d)) (kept-later k n m at d) (total ds)))
-    ∙ sym (tally-parts (sampleKept k n m at) d (total ds))
+    let c : ℕ = d .samples in
+    ap (λ (z : ℕ). tally (sampleKept k n m at) c + z)
+    (entries-kept k (n + c) m (at + c) ds
+    ∙ sym (tally-same (λ (j : ℕ). sampleKept k n m at (c + j)) (sampleKept k (n + c) m (at + c)) (kept-later k n m at c) (samplesOf ds)))
+    ∙ sym (tally-parts (sampleKept k n m at) c (samplesOf ds))
 
 -- ---- the marks are legal
 
@@ -138,11 +140,11 @@ module _ (R : Readings) (head : Head) (b : Bytes) (o : Bool) (h : Bytes) (positi
   now = audio false (carriedOf o h) position serial next head
 
   in-time : verdict R now b ≡ none → completes (pageOf b) ≡ true
-      → tooSmall position (last (pageOf b)) (granuleOf (pageOf b)) (total (lengthsFrom R (head .streams) h (pageOf b))) ≡ false
+      → tooSmall position (last (pageOf b)) (granuleOf (pageOf b)) (samplesOf (measuresFrom R (head .streams) h (pageOf b))) ≡ false
   unfolding verdict expecting
   in-time v e =
-      ap (λ (ds : List ℕ). tooSmall position (last (pageOf b)) (granuleOf (pageOf b)) (total ds))
-      (sym (here-lengths R head b o h position serial next k))
+      ap (λ (ds : List Measure). tooSmall position (last (pageOf b)) (granuleOf (pageOf b)) (samplesOf ds))
+      (sym (here-measures R head b o h position serial next k))
       ∙ timed R now b (seen now (pageOf b)) (here-completes R head b o h position serial next k ∙ e) v .reaches
 
 marks-legal : (R : Readings) (head : Head) (xs : List Shown) (ended o : Bool) (h : Bytes) (position : Position) (serial next skip : ℕ) → Begun o h
@@ -232,8 +234,8 @@ stream-counts R F handed =
       listed = sum-told listedKept S ∙ ap (sum listedKept) (w .listings)
           ∙ sum-stream R bs listedKept (countFrom (sampleKept k)) (λ n q. refl)
           (λ n q m l. ap (λ (a : ℕ). a + countFrom (sampleKept k) (n + decoded m) (At (m .granule)) l)
-          (sym (entries-kept k n m (at q m) (m .lengths))))
-          (λ n q m e. entries-kept k n m (at q m) (m .lengths) ∙ no-tally (sampleKept k n m (at q m)) (decoded m) e) refl;
+          (sym (entries-kept k n m (at q m) (m .measures))))
+          (λ n q m e. entries-kept k n m (at q m) (m .measures) ∙ no-tally (sampleKept k n m (at q m)) (decoded m) e) refl;
       kept = sum-told (λ (l : Listing). l .counts .kept) S ∙ ap (sum (λ (l : Listing). l .counts .kept)) (w .listings)
           ∙ sum-stream R bs (λ (l : Listing). l .counts .kept) (countFrom (sampleKept k)) (λ n q. refl) (λ n q m l. refl)
           (λ n q m e. no-tally (sampleKept k n m (at q m)) (decoded m) e) refl;

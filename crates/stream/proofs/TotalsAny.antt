@@ -25,7 +25,7 @@ use Rattle.stream.specs.declared.Counts.{Counts}
 use Rattle.stream.specs.Page.{Page, pageOf, last, granuleOf}
 use Rattle.stream.specs.Readings.{Readings}
 use Rattle.stream.specs.State.{State, isEnded, inHeaders, expectingIn, expecting}
-use Rattle.stream.specs.Packets.{Seen, audioPackets, lengthsOf}
+use Rattle.stream.specs.Packets.{Seen, audioPackets, measuresOf, samplesOf}
 use Rattle.stream.specs.Rules.{granuleMost, startOn, afterPhase, afterPosition, nextOn, verdict}
 use Rattle.stream.specs.Feed.{Reader, view, added, tallyAfter, tallyOn, countsOn, Fed, fedBy}
 use Rattle.stream.specs.Lent.{isShort}
@@ -175,8 +175,8 @@ ended-stream R (f ∷ fs) r e =
 trimmed-low : (end : Bool) (g at d : ℕ) → trimmedOf end g at d ≤ d
 trimmed-low end g at d = omega (arith, samples-shared 0 end g at d)
 
-headers-list-nothing : (R : Readings) (t : State) (x : Seen) → inHeaders (t .phase) ≡ true → total (lengthsOf R t x) ≡ 0
-unfolding lengthsOf audioPackets total
+headers-list-nothing : (R : Readings) (t : State) (x : Seen) → inHeaders (t .phase) ≡ true → samplesOf (measuresOf R t x) ≡ 0
+unfolding measuresOf audioPackets samplesOf
 headers-list-nothing R t x e = rw e refl
 
 ends-at-last : (ph : Phase) (done : Bool) → inHeaders ph ≡ false → isEnded (afterPhase ph done true) ≡ true
@@ -186,12 +186,12 @@ ends-at-last Audio done e = refl
 ends-at-last Opened done e = refl
 ends-at-last Ended done e = refl
 
-module _ (R : Readings) (low : (n : ℕ) (b : Bytes) → R .samplesOf n b ≤ samplesMax) where
+module _ (R : Readings) (low : (n : ℕ) (b : Bytes) → R .measureOf n b .samples ≤ samplesMax) where
   abbrev trims : Counts → ℕ
   trims n = n .trimmed
 
   pub trimmed-few : (F : List Feeding) (r : Reader) → AllOctets F → sumOf trims (stream R r F) ≤ trimmedMost
-  unfolding stream total countsOn nextOn lengthsOf
+  unfolding stream total countsOn nextOn measuresOf
   trimmed-few [] r o = omega arith
   trimmed-few (f ∷ fs) r o =
       fed-either R r f
@@ -215,7 +215,7 @@ module _ (R : Readings) (low : (n : ℕ) (b : Bytes) → R .samplesOf n b ≤ sa
       at = startOn R t p x
 
       d : ℕ
-      d = total (lengthsOf R t x)
+      d = samplesOf (measuresOf R t x)
 
       later : ℕ
       later = sumOf trims (stream R then fs)
@@ -231,7 +231,7 @@ module _ (R : Readings) (low : (n : ℕ) (b : Bytes) → R .samplesOf n b ≤ sa
           let over : isEnded (then .core .phase) ≡ true =
           ap (λ (w : Bool). isEnded (afterPhase (t .phase) (x .completes) w)) q ∙ ends-at-last (t .phase) (x .completes) e in
           let z : later ≡ 0 = ap (sumOf trims) (ended-stream R fs then over) in
-          let few : length (lengthsOf R t x) ≤ listMax = audio-few R t (f .bytes) (o .0) in
-          let all : d ≤ length (lengthsOf R t x) * samplesMax =
-          sum-most (R .samplesOf (t .streams)) (low (t .streams)) (audioPackets t x) in
+          let few : length (measuresOf R t x) ≤ listMax = audio-few R t (f .bytes) (o .0) in
+          let all : d ≤ length (measuresOf R t x) * samplesMax =
+          sum-most (R .measureOf (t .streams)) (low (t .streams)) (audioPackets t x) in
           omega (arith, z, few, all, trimmed-low (last p) (granuleOf p) at d)

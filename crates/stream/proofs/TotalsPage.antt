@@ -19,9 +19,9 @@ use Rattle.granule.proofs.Placing.{fits-placed}
 use Rattle.stream.specs.declared.Phase.{Phase}
 use Rattle.stream.specs.declared.Phase.the-variants.{First, Comment, Audio, Opened, Ended}
 use Rattle.stream.specs.Page.{Page, pageOf, last, granuleOf, completes}
-use Rattle.stream.specs.Readings.{Readings, readings}
+use Rattle.stream.specs.Readings.{Measure, Readings, readings}
 use Rattle.stream.specs.State.{State, isEnded, inHeaders, expectingIn, expecting}
-use Rattle.stream.specs.Packets.{Seen, lengthsOf}
+use Rattle.stream.specs.Packets.{Seen, measuresOf, samplesOf}
 use Rattle.stream.specs.Rules.{granuleMost, audioCompletes, startOn, afterPhase, afterPosition, nextOn, verdict}
 use Rattle.stream.specs.Feed.{Reader, readerOf, view, coreOf, Entry, entriesOn, countsOn, skipAfter, skipOn, added, tallyOn}
 use Rattle.stream.specs.Unskipped.{trimmedIn}
@@ -146,7 +146,7 @@ module _ (crc : Bytes → ℕ) (i : ℕ) (r : Reader) (c b : Bytes) (o : Octets 
   g = granuleOf p
 
   abbrev d : ℕ
-  d = total (lengthsOf R s x)
+  d = samplesOf (measuresOf R s x)
 
   abbrev at : ℕ
   at = startOn R s p x
@@ -250,7 +250,7 @@ module _ (crc : Bytes → ℕ) (i : ℕ) (r : Reader) (c b : Bytes) (o : Octets 
   unfolding nextOn tallyOn countsOn entriesOn then
   page-grows =
       let es : List Entry = entriesOn R skip s p x in
-      let ds : List ℕ = lengthsOf R s x in
+      let ds : List Measure = measuresOf R s x in
       let a : total (map (λ (n : Entry). n .kept) es) ≡ kept = entries-kept skip (last p) g at ds in
       let t : total (map (trimmedIn p) es) ≡ trimmed = entries-trimmed skip (last p) g at ds in
       let n : total (map (λ (n : Entry). n .samples) es) ≡ d = entries-samples skip (last p) g at ds in

@@ -17,9 +17,9 @@ use Rattle.granule.specs.declared.Position.the-variants.{Unset, Joined, At}
 use Rattle.granule.specs.Judging.{tooSmall, from}
 use Rattle.stream.specs.declared.Phase.the-variants.{Audio, Ended}
 use Rattle.stream.specs.Page.{pageOf, last, granuleOf}
-use Rattle.stream.specs.Readings.{Readings}
+use Rattle.stream.specs.Readings.{Measure, Readings}
 use Rattle.stream.specs.State.{Carried, nothing, dropped, held, State, unfinished}
-use Rattle.stream.specs.Packets.{Seen, begun, join, isLong, audioPackets, lengthsOf}
+use Rattle.stream.specs.Packets.{Seen, begun, join, isLong, audioPackets, measuresOf, samplesOf}
 use Rattle.stream.specs.Rules.{packetChecks, timeChecks, checksOn, stamps, startOn, stampsOn}
 use Rattle.stream.specs.Shape.{wrongShape}
 use Rattle.stream.specs.Feedings.{dropIf}
@@ -129,17 +129,18 @@ map-dropIf f true (x ∷ l) = refl
 map-dropIf f false (x ∷ l) = refl
 
 -- stamps back from G
-stamps-dropIf : (d : Bool) (ds : List ℕ) (g : ℕ) → total ds ≤ g → stamps (g - total (dropIf d ds)) (dropIf d ds) ≡ dropIf d (stamps (g - total ds) ds)
-unfolding stamps total
+stamps-dropIf : (d : Bool) (ds : List Measure) (g : ℕ) → samplesOf ds ≤ g
+    → stamps (g - samplesOf (dropIf d ds)) (dropIf d ds) ≡ dropIf d (stamps (g - samplesOf ds) ds)
+unfolding stamps samplesOf
 stamps-dropIf d [] g h = refl
 stamps-dropIf true (a ∷ ds) g h = ap (λ (n : ℕ). stamps n ds) (omega arith)
 stamps-dropIf false (a ∷ ds) g h = refl
 
-total-dropIf : (d : Bool) (ds : List ℕ) → total (dropIf d ds) ≤ total ds
-unfolding total
-total-dropIf d [] = omega arith
-total-dropIf true (a ∷ ds) = omega arith
-total-dropIf false (a ∷ ds) = omega arith
+samples-dropIf : (d : Bool) (ds : List Measure) → samplesOf (dropIf d ds) ≤ samplesOf ds
+unfolding samplesOf
+samples-dropIf d [] = omega arith
+samples-dropIf true (a ∷ ds) = omega arith
+samples-dropIf false (a ∷ ds) = omega arith
 
 -- ---- what the full reader passes, the other passes, but for 19
 
@@ -176,17 +177,17 @@ module _ (R : Readings) (h : Head) (cr cq : Carried) (position : Position) (seri
         (packets-clear R (h .streams) (isDropped cq) (x .packets) (k .packets));
   }
 
-  -- the lengths on the two sides
-  lengths-alike : lengthsOf R other y ≡ dropIf (isDropped cq) (lengthsOf R full x)
-  unfolding lengthsOf audioPackets
-  lengths-alike = ap (map (R .samplesOf (h .streams))) (c .packets) ∙ map-dropIf (R .samplesOf (h .streams)) (isDropped cq) (x .packets)
+  -- the measures on the two sides
+  measures-alike : measuresOf R other y ≡ dropIf (isDropped cq) (measuresOf R full x)
+  unfolding measuresOf audioPackets
+  measures-alike = ap (map (R .measureOf (h .streams))) (c .packets) ∙ map-dropIf (R .measureOf (h .streams)) (isDropped cq) (x .packets)
 
   -- no packet completes: nothing is listed
   nothing-listed : (a : Carried) (q : Position) (z : Seen) → z .packets ≡ [] → stampsOn R (audio false a q serial next h) (pageOf b) z ≡ []
-  unfolding stampsOn startOn stamps lengthsOf audioPackets
+  unfolding stampsOn startOn stamps measuresOf audioPackets
   nothing-listed a q z e =
-      ap (λ (l : List Bytes). stamps (from q (last (pageOf b)) (granuleOf (pageOf b)) (total (map (R .samplesOf (h .streams)) l)))
-      (map (R .samplesOf (h .streams)) l)) e
+      ap (λ (l : List Bytes). stamps (from q (last (pageOf b)) (granuleOf (pageOf b)) (samplesOf (map (R .measureOf (h .streams)) l)))
+      (map (R .measureOf (h .streams)) l)) e
 
   module _ (nj : NotJoined position) (v : firstOf (checksOn R full b x) ≡ none) where
     other-shaped : Shaped R other b y
@@ -208,21 +209,21 @@ module _ (R : Readings) (h : Head) (cr cq : Carried) (position : Position) (seri
         past-shape R other b y other-shaped ∙ (rw (f, l) refl)
 
     -- a packet completes on another page: G is at least D
-    enough : x .completes ≡ true → last (pageOf b) ≡ false → total (lengthsOf R full x) ≤ granuleOf (pageOf b)
+    enough : x .completes ≡ true → last (pageOf b) ≡ false → samplesOf (measuresOf R full x) ≤ granuleOf (pageOf b)
     enough e l = by position nj (rw l at (timed R full b x e v .reaches))
       where
-        by : (q : Position) → NotJoined q → tooSmall q false (granuleOf (pageOf b)) (total (lengthsOf R full x)) ≡ false
-            → total (lengthsOf R full x) ≤ granuleOf (pageOf b)
-        by Unset n t = ltb-false (granuleOf (pageOf b)) (total (lengthsOf R full x)) t
+        by : (q : Position) → NotJoined q → tooSmall q false (granuleOf (pageOf b)) (samplesOf (measuresOf R full x)) ≡ false
+            → samplesOf (measuresOf R full x) ≤ granuleOf (pageOf b)
+        by Unset n t = ltb-false (granuleOf (pageOf b)) (samplesOf (measuresOf R full x)) t
         by Joined n t = absurd n
-        by (At g) n t = let k : g + total (lengthsOf R full x) ≤ granuleOf (pageOf b) = ltb-false (granuleOf (pageOf b))
-            (g + total (lengthsOf R full x)) t in omega arith
+        by (At g) n t = let k : g + samplesOf (measuresOf R full x) ≤ granuleOf (pageOf b) = ltb-false (granuleOf (pageOf b))
+            (g + samplesOf (measuresOf R full x)) t in omega arith
 
-    enough-other : x .completes ≡ true → last (pageOf b) ≡ false → total (lengthsOf R other y) ≤ granuleOf (pageOf b)
+    enough-other : x .completes ≡ true → last (pageOf b) ≡ false → samplesOf (measuresOf R other y) ≤ granuleOf (pageOf b)
     enough-other e l =
-        let a : total (dropIf (isDropped cq) (lengthsOf R full x)) ≤ total (lengthsOf R full x) = total-dropIf (isDropped cq) (lengthsOf R full x) in
-        let k : total (lengthsOf R full x) ≤ granuleOf (pageOf b) = enough e l in
-        rw lengths-alike (omega arith)
+        let a : samplesOf (dropIf (isDropped cq) (measuresOf R full x)) ≤ samplesOf (measuresOf R full x) = samples-dropIf (isDropped cq) (measuresOf R full x) in
+        let k : samplesOf (measuresOf R full x) ≤ granuleOf (pageOf b) = enough e l in
+        rw measures-alike (omega arith)
 
     pub next-passes : x .completes ≡ true → last (pageOf b) ≡ false → firstOf (checksOn R other b y) ≡ none
     next-passes e l =
@@ -231,10 +232,10 @@ module _ (R : Readings) (h : Head) (cr cq : Carried) (position : Position) (seri
           stands = rw l refl;
           skips = rw l refl;
           reaches = rw l
-              (le-ltb (granuleOf (pageOf b)) (total (lengthsOf R other y)) (enough-other e l));
+              (le-ltb (granuleOf (pageOf b)) (samplesOf (measuresOf R other y)) (enough-other e l));
         })
 
     pub next-lists : x .completes ≡ true → last (pageOf b) ≡ false
         → stampsOn R other (pageOf b) y ≡ dropIf (isDropped cq) (stampsOn R full (pageOf b) x)
     unfolding stampsOn startOn from
-    next-lists e l = rw (l, lengths-alike) (stamps-dropIf (isDropped cq) (lengthsOf R full x) (granuleOf (pageOf b)) (enough e l))
+    next-lists e l = rw (l, measures-alike) (stamps-dropIf (isDropped cq) (measuresOf R full x) (granuleOf (pageOf b)) (enough e l))

@@ -15,9 +15,9 @@ use Rattle.granule.proofs.Tallies.{tally-same, tally-none}
 use Rattle.stream.specs.declared.Phase.{Phase}
 use Rattle.stream.specs.declared.Phase.the-variants.{First, Comment, Audio, Opened, Ended}
 use Rattle.stream.specs.Page.{Page, pageOf, last, granuleOf}
-use Rattle.stream.specs.Readings.{Readings}
+use Rattle.stream.specs.Readings.{Measure, Readings}
 use Rattle.stream.specs.State.{State, isFirst, expectingIn, expecting}
-use Rattle.stream.specs.Packets.{Seen, lengthsOf}
+use Rattle.stream.specs.Packets.{Seen, measuresOf, samplesOf}
 use Rattle.stream.specs.Rules.{nextOn, startOn, afterPhase, verdict}
 use Rattle.stream.specs.Feed.{Reader, view, openAt, Entry, entries, entriesOn, countsOn, skipAfter, skipOn, tallyOn, Taken, Fed, fedBy, feed}
 use Rattle.stream.specs.Lent.{Lent, isShort}
@@ -46,25 +46,26 @@ kept-each skip end g at d z =
     let back : at + d - d ≡ at = omega arith in
     ap₂ (λ (n k : ℕ). keptOf n end g at d + trimmedOf end g k d) z back ∙ kept-rest end g at d
 
-entries-each : (ds : List ℕ) (skip : ℕ) (end : Bool) (g at : ℕ) → skip ≡ 0
+entries-each : (ds : List Measure) (skip : ℕ) (end : Bool) (g at : ℕ) → skip ≡ 0
     → map (λ (e : Entry). e .kept + trimmedOf end g (e .end - e .samples) (e .samples)) (entries skip end g at ds)
     ≡ map (λ (e : Entry). e .samples) (entries skip end g at ds)
 unfolding entries
 entries-each [] skip end g at z = refl
 entries-each (d ∷ ds) skip end g at z =
-    ap₂ (λ (n : ℕ) (l : List ℕ). n ∷ l) (kept-each skip end g at d z) (entries-each ds (skip - d) end g (at + d) (omega arith))
+    ap₂ (λ (n : ℕ) (l : List ℕ). n ∷ l) (kept-each skip end g at (d .samples) z)
+    (entries-each ds (skip - d .samples) end g (at + d .samples) (omega arith))
 
 -- ---- a page
 
 page-each : (R : Readings) (skip : ℕ) (t : State) (p : Page) (x : Seen) → skip ≡ 0 → AllButTrimmed p (entriesOn R skip t p x) (countsOn R skip t p x)
 unfolding entriesOn countsOn
 page-each R skip t p x z = record {
-  each = entries-each (lengthsOf R t x) skip (last p) (granuleOf p) (startOn R t p x) z;
-  skipped = ap (λ (n : ℕ). skippedOf n (last p) (granuleOf p) (startOn R t p x) (total (lengthsOf R t x))) z
-      ∙ skipped-none (last p) (granuleOf p) (startOn R t p x) (total (lengthsOf R t x));
-  kept = ap (λ (n : ℕ). keptOf n (last p) (granuleOf p) (startOn R t p x) (total (lengthsOf R t x))
-      + trimmedOf (last p) (granuleOf p) (startOn R t p x) (total (lengthsOf R t x))) z
-      ∙ kept-rest (last p) (granuleOf p) (startOn R t p x) (total (lengthsOf R t x));
+  each = entries-each (measuresOf R t x) skip (last p) (granuleOf p) (startOn R t p x) z;
+  skipped = ap (λ (n : ℕ). skippedOf n (last p) (granuleOf p) (startOn R t p x) (samplesOf (measuresOf R t x))) z
+      ∙ skipped-none (last p) (granuleOf p) (startOn R t p x) (samplesOf (measuresOf R t x));
+  kept = ap (λ (n : ℕ). keptOf n (last p) (granuleOf p) (startOn R t p x) (samplesOf (measuresOf R t x))
+      + trimmedOf (last p) (granuleOf p) (startOn R t p x) (samplesOf (measuresOf R t x))) z
+      ∙ kept-rest (last p) (granuleOf p) (startOn R t p x) (samplesOf (measuresOf R t x));
 }
 
 skip-stays : (ph : Phase) (preskip skip d : ℕ) → isFirst ph ≡ false → skip ≡ 0 → skipAfter ph preskip skip d ≡ 0
@@ -109,7 +110,7 @@ stays-by : (R : Readings) (r : Reader) (m : Lent) (s : State) (p : Page) (x : Se
     → isFirst (s .phase) ≡ false → Unskipping (readerBy (fedBy v R r m s p x .told) r)
 unfolding skipOn tallyOn nextOn
 stays-by R r m s p x none u f = record {
-  skip = skip-stays (s .phase) _ (r .tally .skip) (total (lengthsOf R s x)) f (u .skip);
+  skip = skip-stays (s .phase) _ (r .tally .skip) (samplesOf (measuresOf R s x)) f (u .skip);
   past = never-first (s .phase) (x .completes) (last p);
 }
 stays-by R r m s p x (some n) u f = u

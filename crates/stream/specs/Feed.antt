@@ -8,7 +8,7 @@ use mathlib.Core.Option.{Option, none, some}
 use lib.Dec.{ltb, leb}
 use lib.ListN.{length, take, drop}
 use Rattle.octets.specs.Pick.{pick}
-use Rattle.octets.specs.Octets.{Bytes, total, copied}
+use Rattle.octets.specs.Octets.{Bytes, copied}
 use Rattle.refusal.specs.declared.Refusal.{Refusal}
 use Rattle.refusal.specs.declared.Refusal.the-variants.{ShortRoom, BadHead, UnfitFields}
 use Rattle.refusal.specs.Checks.{Check, _when_, firstOf}
@@ -28,11 +28,11 @@ use Rattle.stream.specs.declared.Tally.{Tally}
 use Rattle.stream.specs.declared.Counts.{Counts}
 use Rattle.stream.specs.declared.PageFed.{PageFed}
 use Rattle.stream.specs.declared.PageFed.the-variants.{Accepted, Refused}
-use Rattle.stream.specs.Lent.{Lent, isShort}
+use Rattle.stream.specs.Lent.{Lent, lentOf, withCarry, isShort}
 use Rattle.stream.specs.Page.{Page, pageOf, last, granuleOf, whole, rest}
-use Rattle.stream.specs.Readings.{Readings}
+use Rattle.stream.specs.Readings.{Measure, Readings}
 use Rattle.stream.specs.State.{Carried, nothing, dropped, held, State, isComment, expecting}
-use Rattle.stream.specs.Packets.{Seen, seen, lengthsOf}
+use Rattle.stream.specs.Packets.{Seen, seen, measuresOf, samplesOf}
 use Rattle.stream.specs.Rules.{audioCompletes, checksOn, Stamp, startOn, nextOn}
 
 pub record Reader : Type 0 where
@@ -123,24 +123,28 @@ pub record Entry : Type 0 where
 abbrev pub stampOf : Entry → Stamp
 stampOf e = record { end = e .end; samples = e .samples }
 
--- packets of these lengths on a page with granule g, the first beginning after `at` with `skip` samples still to skip
-unfoldable pub entries : ℕ → Bool → ℕ → ℕ → List ℕ → List Entry
+-- a packet of this measure that begins after `at`
+abbrev pub entryOf : ℕ → Measure → ℕ → Entry
+entryOf at m kept = record { end = at + m .samples; samples = m .samples; kept = kept }
+
+-- packets of these measures on a page with granule g, the first beginning after `at` with `skip` samples still to skip
+unfoldable pub entries : ℕ → Bool → ℕ → ℕ → List Measure → List Entry
 entries skip end g at [] = []
-entries skip end g at (d ∷ ds) =
-    record { end = at + d; samples = d; kept = keptOf skip end g at d } ∷ entries (skip - d) end g (at + d) ds
+entries skip end g at (m ∷ ms) =
+    entryOf at m (keptOf skip end g at (m .samples)) ∷ entries (skip - m .samples) end g (at + m .samples) ms
 
 unfoldable pub entriesOn : Readings → ℕ → State → Page → Seen → List Entry
-entriesOn R skip s p x = entries skip (last p) (granuleOf p) (startOn R s p x) (lengthsOf R s x)
+entriesOn R skip s p x = entries skip (last p) (granuleOf p) (startOn R s p x) (measuresOf R s x)
 
 -- the page's own record, each sample counted
 unfoldable pub countsOn : Readings → ℕ → State → Page → Seen → Counts
 countsOn R skip s p x = record {
-  packets = length (lengthsOf R s x);
-  samples = total (lengthsOf R s x);
-  kept = keptOf skip (last p) (granuleOf p) (startOn R s p x) (total (lengthsOf R s x));
-  skipped = skippedOf skip (last p) (granuleOf p) (startOn R s p x) (total (lengthsOf R s x));
-  trimmed = trimmedOf (last p) (granuleOf p) (startOn R s p x) (total (lengthsOf R s x));
-  hole = pick (audioCompletes s x) (hole (s .position) (granuleOf p) (total (lengthsOf R s x))) 0;
+  packets = length (measuresOf R s x);
+  samples = samplesOf (measuresOf R s x);
+  kept = keptOf skip (last p) (granuleOf p) (startOn R s p x) (samplesOf (measuresOf R s x));
+  skipped = skippedOf skip (last p) (granuleOf p) (startOn R s p x) (samplesOf (measuresOf R s x));
+  trimmed = trimmedOf (last p) (granuleOf p) (startOn R s p x) (samplesOf (measuresOf R s x));
+  hole = pick (audioCompletes s x) (hole (s .position) (granuleOf p) (samplesOf (measuresOf R s x))) 0;
 }
 
 -- the record of a page that lists nothing
@@ -156,7 +160,7 @@ skipAfter Opened preskip skip d = skip - d
 skipAfter Ended preskip skip d = skip
 
 unfoldable pub skipOn : Readings → ℕ → State → Page → Seen → ℕ
-skipOn R skip s p x = skipAfter (s .phase) (nextOn R s p x .preskip) skip (total (lengthsOf R s x))
+skipOn R skip s p x = skipAfter (s .phase) (nextOn R s p x .preskip) skip (samplesOf (measuresOf R s x))
 
 -- a total after n more
 abbrev pub added : ℕ → ℕ → ℕ
@@ -220,6 +224,14 @@ carryAfter (some n) s p carry =
 abbrev pub listed : (Entry → ℕ) → List Entry → List ℕ → List ℕ
 listed field es old = map field es ++ drop (length es) old
 
+-- the lent memory with these entries in its lists, each list by its field of an entry
+abbrev pub withEntries : List Entry → Lent → Lent
+withEntries es m =
+    lentOf (m .carry)
+    (listed (λ (e : Entry). e .end) es (m .ends))
+    (listed (λ (e : Entry). e .samples) es (m .lengths))
+    (listed (λ (e : Entry). e .kept) es (m .kept))
+
 -- ---- feeding
 
 -- what an accepted page gives: the next reader, and the page's own record
@@ -250,17 +262,12 @@ fedBy none R r m t p x = record {
     counts = countsOn R (r .tally .skip) t p x;
   });
   entries = entriesOn R (r .tally .skip) t p x;
-  lent = record {
-    carry = carryAfter none t p (m .carry);
-    ends = listed (λ (e : Entry). e .end) (entriesOn R (r .tally .skip) t p x) (m .ends);
-    lengths = listed (λ (e : Entry). e .samples) (entriesOn R (r .tally .skip) t p x) (m .lengths);
-    kept = listed (λ (e : Entry). e .kept) (entriesOn R (r .tally .skip) t p x) (m .kept);
-  };
+  lent = withEntries (entriesOn R (r .tally .skip) t p x) (withCarry m (carryAfter none t p (m .carry)));
 }
 fedBy (some n) R r m t p x = record {
   told = refuses (numberOf n);
   entries = [];
-  lent = record { carry = carryAfter (some n) t p (m .carry); ends = m .ends; lengths = m .lengths; kept = m .kept };
+  lent = withCarry m (carryAfter (some n) t p (m .carry));
 }
 
 -- 1 to 19, in the order of RULES.md, 7

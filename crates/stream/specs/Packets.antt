@@ -10,7 +10,7 @@ use Rattle.octets.specs.Octets.{Bytes}
 use Rattle.limits.specs.Limits.{packetMax}
 use Rattle.page_lacing.specs.Lacing.{endedFrom, unfinishedFrom}
 use Rattle.stream.specs.Page.{Page, whole, rest}
-use Rattle.stream.specs.Readings.{Readings}
+use Rattle.stream.specs.Readings.{Measure, Readings}
 use Rattle.stream.specs.State.{Carried, nothing, dropped, held, State, inHeaders}
 
 -- ---- the packets of a page
@@ -62,10 +62,15 @@ isLong nothing l = longFrom 0 l
 isLong dropped l = longFrom 0 (afterFirst l)
 isLong (held n h) l = longFrom n l
 
--- ---- the audio packets, and their lengths in samples
+-- ---- the audio packets, and their measures
 
 unfoldable pub audioPackets : State → Seen → List Bytes
 audioPackets s x = pick (inHeaders (s .phase)) [] (x .packets)
 
-unfoldable pub lengthsOf : Readings → State → Seen → List ℕ
-lengthsOf R s x = map (R .samplesOf (s .streams)) (audioPackets s x)
+unfoldable pub measuresOf : Readings → State → Seen → List Measure
+measuresOf R s x = map (R .measureOf (s .streams)) (audioPackets s x)
+
+-- the samples of packets of these measures
+unfoldable pub samplesOf : List Measure → ℕ
+samplesOf [] = 0
+samplesOf (m ∷ ms) = m .samples + samplesOf ms

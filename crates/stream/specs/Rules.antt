@@ -6,7 +6,7 @@ use mathlib.Core.List.{List, [], _∷_, _++_}
 use mathlib.Core.Option.{Option, none, some}
 use lib.Dec.{ltb, eqb}
 use Rattle.octets.specs.Pick.{pick}
-use Rattle.octets.specs.Octets.{Bytes, total}
+use Rattle.octets.specs.Octets.{Bytes}
 use Rattle.refusal.specs.declared.Refusal.{Refusal}
 use Rattle.refusal.specs.declared.Refusal.the-variants.{AfterEnd, NotOnePage, WrongChecksum, OtherSerial, OutOfSequence}
 use Rattle.refusal.specs.declared.Refusal.the-variants.{WrongFlags, WrongContinued, PacketTooLong, HeaderShape, WrongGranule}
@@ -20,10 +20,10 @@ use Rattle.stream.specs.declared.Phase.the-variants.{First, Comment, Aud
 use Rattle.page_flags.specs.Flags.{isFirstPage, isLastPage}
 use Rattle.page_layout.specs.declared.PageHeader.{PageHeader}
 use Rattle.stream.specs.Page.{Page, pageOf, continued, last, granuleOf}
-use Rattle.stream.specs.Readings.{Readings}
+use Rattle.stream.specs.Readings.{Measure, Readings}
 use Rattle.stream.specs.State.{State, isFirst, isComment, isEnded, inHeaders, unfinished, expecting}
 use Rattle.stream.specs.Shape.{shapeOf, wrongShape}
-use Rattle.stream.specs.Packets.{Seen, seen, isLong, audioPackets, lengthsOf}
+use Rattle.stream.specs.Packets.{Seen, seen, isLong, audioPackets, measuresOf, samplesOf}
 
 -- ---- the tests
 
@@ -83,7 +83,7 @@ packetChecks R n (b ∷ bs) = IllegalPacket when not (R .isLegal n b) ∷ MixedL
 -- 19, 18, 17, where an audio packet completes
 unfoldable pub timeChecks : Readings → State → Page → Seen → List Check
 timeChecks R s p x =
-    pick (audioCompletes s x) (judgeChecks (s .position) (s .preskip) (granuleOf p) (total (lengthsOf R s x)) (last p)) []
+    pick (audioCompletes s x) (judgeChecks (s .position) (s .preskip) (granuleOf p) (samplesOf (measuresOf R s x)) (last p)) []
 
 -- 2 to 14
 abbrev pub shapeChecks : Readings → State → Bytes → Seen → List Check
@@ -102,17 +102,17 @@ pub record Stamp : Type 0 where
   pub end : ℕ
   pub samples : ℕ
 
--- of packets of these lengths, the first beginning after a position
-unfoldable pub stamps : ℕ → List ℕ → List Stamp
+-- of packets of these measures, the first beginning after a position
+unfoldable pub stamps : ℕ → List Measure → List Stamp
 stamps at [] = []
-stamps at (d ∷ ds) = record { end = at + d; samples = d } ∷ stamps (at + d) ds
+stamps at (m ∷ ms) = record { end = at + m .samples; samples = m .samples } ∷ stamps (at + m .samples) ms
 
 -- where the packets of the page begin
 unfoldable pub startOn : Readings → State → Page → Seen → ℕ
-startOn R s p x = from (s .position) (last p) (granuleOf p) (total (lengthsOf R s x))
+startOn R s p x = from (s .position) (last p) (granuleOf p) (samplesOf (measuresOf R s x))
 
 unfoldable pub stampsOn : Readings → State → Page → Seen → List Stamp
-stampsOn R s p x = stamps (startOn R s p x) (lengthsOf R s x)
+stampsOn R s p x = stamps (startOn R s p x) (measuresOf R s x)
 
 -- ---- the state that follows
 

@@ -228,7 +228,7 @@ pub record Agree (crc : Bytes → ℕ) : Type 0 where
   pub head : (b : Bytes) → decided (firstOf (headChecks (readings crc) b)) (readings crc .headOf b) ≡ readHead b
   pub tags : (b : Bytes) → decided (firstOf (BadTags when not (readings crc .isTags b) ∷ [])) (tagsOf b) ≡ readTags b
   pub packet : (b : Bytes) (n : ℕ) → 1 ≤ n → n ≤ 255
-      → decided (firstOf (packetChecks (readings crc) n (b ∷ []))) (readings crc .samplesOf n b)
+      → decided (firstOf (packetChecks (readings crc) n (b ∷ []))) (readings crc .measureOf n b .samples)
       ≡ readPacket b n
 
 abbrev pub ReadingsAgree : Type 0

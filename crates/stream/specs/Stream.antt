@@ -6,7 +6,7 @@ use mathlib.Core.List.{List, [], _∷_, _++_, map}
 use lib.Dec.{ltb}
 use lib.ListN.{length, take, drop}
 use Rattle.octets.specs.Pick.{pick}
-use Rattle.octets.specs.Octets.{Bytes, total}
+use Rattle.octets.specs.Octets.{Bytes}
 use Rattle.head_fields.specs.declared.Head.{Head}
 use Rattle.head_reader.specs.Reading.{noHead}
 use Rattle.granule.specs.declared.Position.{Position}
@@ -17,10 +17,11 @@ use Rattle.stream.specs.declared.Counts.{Counts}
 use Rattle.stream.specs.declared.Phase.{Phase}
 use Rattle.stream.specs.declared.Phase.the-variants.{First, Comment, Audio, Ended}
 use Rattle.stream.specs.Page.{Page, pageOf, last, granuleOf, completes}
-use Rattle.stream.specs.Readings.{Readings}
+use Rattle.stream.specs.Readings.{Measure, Readings}
 use Rattle.stream.specs.State.{Carried, nothing, held}
+use Rattle.stream.specs.Packets.{samplesOf}
 use Rattle.stream.specs.Rules.{firstPacket, afterPosition}
-use Rattle.stream.specs.Feed.{Entry, noCounts}
+use Rattle.stream.specs.Feed.{Entry, entryOf, noCounts}
 
 -- ---- packets by their segments
 
@@ -103,22 +104,22 @@ serialOf (b ∷ bs) = pageOf b .header .serial
 
 -- ---- the pages where an audio packet completes
 
--- G, the lengths of the packets, and whether the page is marked last
+-- G, the measures of the packets, and whether the page is marked last
 pub record Mark : Type 0 where
   pub granule : ℕ
-  pub lengths : List ℕ
+  pub measures : List Measure
   pub last : Bool
 
 -- D
 abbrev pub decoded : Mark → ℕ
-decoded m = total (m .lengths)
+decoded m = samplesOf (m .measures)
 
--- the lengths in samples of the packets that complete on a page, h being begun before it
-abbrev pub lengthsFrom : Readings → ℕ → Bytes → Page → List ℕ
-lengthsFrom R n h p = map (R .samplesOf n) (packetsFrom h (segmentsOf p))
+-- the measures of the packets that complete on a page, h being begun before it
+abbrev pub measuresFrom : Readings → ℕ → Bytes → Page → List Measure
+measuresFrom R n h p = map (R .measureOf n) (packetsFrom h (segmentsOf p))
 
 abbrev pub markFrom : Readings → ℕ → Bytes → Page → Mark
-markFrom R n h p = record { granule = granuleOf p; lengths = lengthsFrom R n h p; last = last p }
+markFrom R n h p = record { granule = granuleOf p; measures = measuresFrom R n h p; last = last p }
 
 unfoldable pub marksFrom : Readings → ℕ → Bytes → List Bytes → List Mark
 marksFrom R n h [] = []
@@ -203,14 +204,15 @@ abbrev pub nothingListed : Listing
 nothingListed = record { entries = []; counts = noCounts }
 
 -- the packets of a mark, n samples being decoded before the first, which begins after `at`
-unfoldable pub entriesFrom : ℕ → ℕ → Mark → ℕ → List ℕ → List Entry
+unfoldable pub entriesFrom : ℕ → ℕ → Mark → ℕ → List Measure → List Entry
 entriesFrom preskip n m at [] = []
 entriesFrom preskip n m at (d ∷ ds) =
-    record { end = at + d; samples = d; kept = tally (sampleKept preskip n m at) d } ∷ entriesFrom preskip (n + d) m (at + d) ds
+    entryOf at d (tally (sampleKept preskip n m at) (d .samples))
+    ∷ entriesFrom preskip (n + d .samples) m (at + d .samples) ds
 
 abbrev pub countsFrom : ℕ → ℕ → Mark → ℕ → ℕ → Counts
 countsFrom preskip n m at hole = record {
-  packets = length (m .lengths);
+  packets = length (m .measures);
   samples = decoded m;
   kept = tally (sampleKept preskip n m at) (decoded m);
   skipped = tally (sampleSkipped preskip n m at) (decoded m);
@@ -221,7 +223,7 @@ countsFrom preskip n m at hole = record {
 -- of a page with this mark, which counts where a packet completes
 abbrev pub listingFrom : ℕ → Position → ℕ → Bool → Mark → Listing
 listingFrom preskip position n done m = record {
-  entries = entriesFrom preskip n m (from position (m .last) (m .granule) (decoded m)) (m .lengths);
+  entries = entriesFrom preskip n m (from position (m .last) (m .granule) (decoded m)) (m .measures);
   counts = countsFrom preskip n m (from position (m .last) (m .granule) (decoded m))
       (pick done (hole position (m .granule) (decoded m)) 0);
 }
@@ -233,7 +235,7 @@ audioListings R head h position n (b ∷ bs) =
     listingFrom (head .preskip) position n (completes (pageOf b)) (markFrom R (head .streams) h (pageOf b))
     ∷ audioListings R head (leftFrom h (segmentsOf (pageOf b)))
     (afterPosition (completes (pageOf b)) position (granuleOf (pageOf b)))
-    (n + total (lengthsFrom R (head .streams) h (pageOf b))) bs
+    (n + samplesOf (measuresFrom R (head .streams) h (pageOf b))) bs
 
 unfoldable pub commentListings : Readings → Head → List Bytes → List Listing
 commentListings R head [] = []

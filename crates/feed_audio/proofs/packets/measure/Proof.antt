@@ -5,14 +5,14 @@ use native.Mathlib.Omega.{arith}
 use borrow.Author.Needs.{needs}
 use lib.ListN.{length, drop, take}
 use Rattle.stream.specs.Page.{wholeFrom}
-use Rattle.feed_audio.specs.Code.{inFront, measured}
+use Rattle.feed_audio.specs.Code.{measuresIn, inFront, measured}
 use Rattle.feed_audio.proofs.Measuring.{Measuring, read-as, few-samples, fits, goes-on, refused, ends, all-measured}
 use Rattle.feed_audio.proofs.packets.measure.Statement.{statement}
 use Rattle.feed_audio.proofs.packets.measure.Tie as tie
 
 abbrev Inv-loop : tie.InvT-loop
 Inv-loop lacing body from at streams lens₀ n d count₀ sum₀ start₀ bytes₀ i₀ lens count sum start bytes i =
-    Measuring streams lacing body (inFront (take n lens₀) (measured streams (wholeFrom 0 (drop from lacing) (drop at body)))) n (length lens₀) from lens count sum start bytes i
+    Measuring streams lacing body (inFront (measuresIn (take n lens₀)) (measured streams (wholeFrom 0 (drop from lacing) (drop at body)))) n (length lens₀) from lens count sum start bytes i
 
 abbrev μ-loop : tie.MeasureT-loop
 μ-loop lacing body from at streams lens₀ n d count₀ sum₀ start₀ bytes₀ i₀ lens count sum start bytes i = length lacing - i

@@ -8,6 +8,7 @@ use lib.ListN.{length, length-set}
 use lib.Seq.{length-take-le}
 use Rattle.octets.specs.Octets.{total}
 use Rattle.stream.specs.declared.Pending.the-variants.{Nothing, Held, Dropped}
+use Rattle.feed_audio.specs.Code.{measuresIn}
 use Rattle.feed_audio.proofs.Measuring.{read-as, few-samples, none-yet, first-sums, first-refused, first-measured}
 use Rattle.feed_audio.proofs.packets.measure_page.Statement.{statement}
 use Rattle.feed_audio.proofs.packets.measure_page.Tie as tie
@@ -41,11 +42,13 @@ measure-requires-3 c κs =
     record { few = st .pre .few; within = st .pre .within; bytes = st .pre .rest; room = simp length-set (omega arith); one = omega arith; adds = first-sums (now (st .args .lens)) s size; small = omega arith }
 
 returns : tie.Need-returns
+unfolding measuresIn
 returns c =
     let q : c .before .before .before .before .before .before .before .before .before .before .args .pending ≡ Nothing = c .before .before .before .before .enum-told .given .1 in
     rw q (none-yet (c .before .before .measure .ensures))
 
 returns-2 : tie.Need-returns-2
+unfolding measuresIn
 returns-2 c =
     let q : c .before .before .before .before .before .before .before .before .before .before .args .pending ≡ Dropped = c .before .before .before .before .enum-told2 .given .1 in
     rw q (none-yet (c .before .before .measure2 .ensures))

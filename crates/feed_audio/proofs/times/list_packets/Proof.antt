@@ -7,13 +7,14 @@ use denote.Ref.{now}
 use lib.ListN.{take}
 use lib.Seq.{getD-take}
 use Rattle.stream.specs.Feed.{entries}
+use Rattle.feed_audio.specs.Code.{measuresIn}
 use Rattle.feed_audio.proofs.Listing.{Listing, begins, fits-next, lists, all-listed}
 use Rattle.feed_audio.proofs.times.list_packets.Statement.{statement}
 use Rattle.feed_audio.proofs.times.list_packets.Tie as tie
 
 abbrev Inv-loop : tie.InvT-loop
 Inv-loop lens n from skip last g ends₀ lengths₀ kept₀ at₀ left₀ i₀ ends lengths kept at left i =
-    Listing skip last g (entries skip last g from (take n lens)) (take n lens) n ends₀ lengths₀ kept₀ ends lengths kept at left i
+    Listing skip last g (entries skip last g from (measuresIn (take n lens))) (take n lens) n ends₀ lengths₀ kept₀ ends lengths kept at left i
 
 abbrev μ-loop : tie.MeasureT-loop
 μ-loop lens n from skip last g ends₀ lengths₀ kept₀ at₀ left₀ i₀ ends lengths kept at left i = n - i
