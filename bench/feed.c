@@ -34,7 +34,7 @@ static uint8_t pages[PAGES * LONGEST];
 static size_t page_bytes;
 static uint64_t after_headers[16];
 static uint8_t carry[CARRY];
-static uint64_t ends[PACKETS], lengths[PACKETS], kept[PACKETS];
+static uint64_t ends[PACKETS], lengths[PACKETS], kept[PACKETS], frames[PACKETS];
 static volatile uint32_t sink; /* keeps the calls whose result nobody needs */
 
 static void must(uint32_t answer, const char *what)
@@ -47,7 +47,8 @@ static void must(uint32_t answer, const char *what)
 
 static uint32_t feed(uint64_t state[16], const uint8_t *page, size_t n, uint64_t record[6])
 {
-    return embulgri_feed(state, page, n, carry, CARRY, ends, PACKETS, lengths, PACKETS, kept, PACKETS, record);
+    return embulgri_feed(state, page, n, carry, CARRY, ends, PACKETS, lengths, PACKETS, kept, PACKETS, frames, PACKETS,
+                         record);
 }
 
 /* ---- the recording */

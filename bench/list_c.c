@@ -21,7 +21,7 @@ static const uint64_t NO_GRANULE = UINT64_MAX;
 static uint8_t out[OUTPUT + 64];
 static size_t out_at;
 static char four_digits[10000][4];
-static struct { char text[24]; uint32_t length; } ending[MOST_SAMPLES / 120 + 1]; /* " dur dur\n" by dur / 120 */
+static struct { char text[24]; uint32_t length, samples; } ending[SHAPES]; /* " dur frames dur\n", and dur */
 static uint64_t high;           /* the last stamp without its four lowest digits, */
 static char high_text[24];      /* and as text */
 static uint32_t high_length;
@@ -33,8 +33,14 @@ static void make_digits(void)
         snprintf(text, sizeof text, "%04d", i);
         memcpy(four_digits[i], text, 4);
     }
-    for (int i = 1; i <= MOST_SAMPLES / 120; i++)
-        ending[i].length = snprintf(ending[i].text, sizeof ending[i].text, " %d %d\n", 120 * i, 120 * i);
+    for (uint32_t shape = 0; shape < SHAPES; shape++) {
+        uint32_t samples = samples_of(shape);
+        if (samples == 0 || samples > MOST_SAMPLES)
+            continue;
+        ending[shape].samples = samples;
+        ending[shape].length = snprintf(ending[shape].text, sizeof ending[shape].text, " %u %u %u\n", samples,
+                                        frames_of(shape), samples);
+    }
 }
 
 static void flush(void)
@@ -49,13 +55,13 @@ static void flush(void)
 }
 
 /* Lines of packets of which nothing is skipped or trimmed, from the position before them. */
-static void put_whole(uint64_t at, const uint16_t *samples, uint32_t count)
+static void put_whole(uint64_t at, const uint16_t *shapes, uint32_t count)
 {
     uint8_t *o = out + out_at;
     uint64_t low = at - high * 10000;
     for (uint32_t k = 0; k < count; k++) {
-        uint32_t s = samples[k] / 120;
-        low += samples[k];
+        uint32_t s = shapes[k];
+        low += ending[s].samples;
         if (low >= 10000) {
             high += low / 10000;
             low %= 10000;
@@ -74,10 +80,10 @@ static void put_whole(uint64_t at, const uint16_t *samples, uint32_t count)
     out_at = o - out;
 }
 
-static void put_line(uint64_t end, uint64_t samples, uint64_t kept)
+static void put_line(uint64_t end, uint32_t shape, uint64_t kept)
 {
-    out_at += sprintf((char *)out + out_at, "%llu %llu %llu\n", (unsigned long long)end, (unsigned long long)samples,
-                      (unsigned long long)kept);
+    out_at += sprintf((char *)out + out_at, "%llu %u %u %llu\n", (unsigned long long)end, samples_of(shape),
+                      frames_of(shape), (unsigned long long)kept);
 }
 
 /* ---- stamps and cuts (RFC 7845, 4) */
@@ -85,16 +91,16 @@ static void put_line(uint64_t end, uint64_t samples, uint64_t kept)
 static int have_position;
 static uint64_t position, decoded, kept_sum, skipped_sum, trimmed_sum, hole;
 
-static void put_cut(uint64_t at, uint64_t granule, int cut, const uint16_t *samples, uint32_t count)
+static void put_cut(uint64_t at, uint64_t granule, int cut, const uint16_t *shapes, uint32_t count)
 {
     uint64_t seen = decoded;
     for (uint32_t k = 0; k < count; k++) {
-        uint64_t n = samples[k], end = at + n, trimmed = 0, skipped = seen < pre_skip ? pre_skip - seen : 0;
+        uint64_t n = samples_of(shapes[k]), end = at + n, trimmed = 0, skipped = seen < pre_skip ? pre_skip - seen : 0;
         if (cut && end > granule)
             trimmed = end - granule < n ? end - granule : n;
         if (skipped > n - trimmed)
             skipped = n - trimmed;
-        put_line(end, n, n - trimmed - skipped);
+        put_line(end, shapes[k], n - trimmed - skipped);
         trimmed_sum += trimmed;
         skipped_sum += skipped;
         kept_sum += n - trimmed - skipped;
@@ -104,7 +110,7 @@ static void put_cut(uint64_t at, uint64_t granule, int cut, const uint16_t *samp
 }
 
 /* The packets that end on a page, sum samples in all. */
-static int list_packets(uint64_t granule, int last, const uint16_t *samples, uint32_t count, uint64_t sum)
+static int list_packets(uint64_t granule, int last, const uint16_t *shapes, uint32_t count, uint64_t sum)
 {
     uint64_t before = position;
     if (!have_position) {
@@ -121,9 +127,9 @@ static int list_packets(uint64_t granule, int last, const uint16_t *samples, uin
     uint64_t at = cut ? before : granule - sum;
     if (!cut && decoded >= pre_skip) {
         kept_sum += sum;
-        put_whole(at, samples, count);
+        put_whole(at, shapes, count);
     } else
-        put_cut(at, granule, cut, samples, count);
+        put_cut(at, granule, cut, shapes, count);
     decoded += sum;
     position = granule;
     have_position = 1;
@@ -219,23 +225,24 @@ static int feed_header(const struct page *page)
     return refusal;
 }
 
-/* Samples of a packet; those of one frame and one stream are told by the first byte. */
-static int samples_of(const uint8_t *p, uint32_t n)
+/* The shape of a packet; that of one frame and one stream is told by the first byte. */
+static int shape_of(const uint8_t *p, uint32_t n)
 {
     if (streams == 1 && n - 1 <= 1275 && (*p & 3) == 0)
-        return frame_samples[*p >> 3];
+        return one_frame(*p);
     return audio_packet(p, n, streams);
 }
 
 static int feed_audio(const struct page *page)
 {
-    uint16_t samples[255];
+    uint16_t shapes[255];
     uint32_t count = 0, i = 0, size = 0;
     uint64_t sum = 0;
     const uint8_t *q = page->body;
     if (page->plain && streams == 1)
         for (; i < page->lacings && page->lacing[i] && (*q & 3) == 0; i++) {
-            sum += samples[count++] = frame_samples[*q >> 3];
+            sum += frame_samples[*q >> 3];
+            shapes[count++] = one_frame(*q);
             q += page->lacing[i];
         }
     for (; i < page->lacings; i++) {
@@ -250,14 +257,15 @@ static int feed_audio(const struct page *page)
             n += held;
             held = 0;
         }
-        int r = samples_of(packet, n);
-        if (r <= 0)
-            return r ? 16 : 15;
-        sum += samples[count++] = r;
+        int shape = shape_of(packet, n);
+        if (shape <= 0)
+            return shape ? 16 : 15;
+        sum += samples_of(shape);
+        shapes[count++] = shape;
         q += size;
         size = 0;
     }
-    int refusal = count ? list_packets(page->granule, page->flags >> 2 & 1, samples, count, sum) : 0;
+    int refusal = count ? list_packets(page->granule, page->flags >> 2 & 1, shapes, count, sum) : 0;
     memcpy(carry + held, q, size);
     held += size;
     return refusal;
@@ -320,7 +328,7 @@ int main(void)
     make_tables();
     make_frame_samples();
     make_digits();
-    out_at = sprintf((char *)out, "end dur kept\n");
+    out_at = sprintf((char *)out, "end dur frames kept\n");
     for (;;) {
         size_t n = have - at, size = extent(in + at, n);
         int no_page = n >= 4 && memcmp(in + at, "OggS", 4);

@@ -98,7 +98,26 @@ static long padding(const uint8_t **p, const uint8_t *end)
     return -1;
 }
 
-/* Samples of the Opus packet at *at, 0 if it is illegal; *at goes after it. */
+/* A packet's shape: its configuration times 64, and its number of frames. */
+enum { SHAPES = 32 << 6 };
+
+static uint32_t frames_of(uint32_t shape)
+{
+    return shape & 63;
+}
+
+static uint32_t samples_of(uint32_t shape)
+{
+    return frames_of(shape) * frame_samples[shape >> 6];
+}
+
+/* The shape of a packet of one frame, code 0, by its first byte. */
+static uint32_t one_frame(uint32_t toc)
+{
+    return toc >> 3 << 6 | 1;
+}
+
+/* The shape of the Opus packet at *at, 0 if it is illegal; *at goes after it. */
 static uint32_t opus_packet(const uint8_t **at, const uint8_t *end, int delimited)
 {
     const uint8_t *p = *at;
@@ -115,8 +134,8 @@ static uint32_t opus_packet(const uint8_t **at, const uint8_t *end, int delimite
         if (count & 0x40 && (pad = padding(&p, end)) < 0)
             return 0;
     }
-    uint32_t samples = frames * frame_samples[toc >> 3];
-    if (frames == 0 || samples > MOST_SAMPLES)
+    uint32_t shape = toc >> 3 << 6 | frames;
+    if (frames == 0 || samples_of(shape) > MOST_SAMPLES)
         return 0;
     for (uint32_t i = 1; variable && i < frames; i++) {
         long v = coded(&p, end);
@@ -137,22 +156,22 @@ static uint32_t opus_packet(const uint8_t **at, const uint8_t *end, int delimite
     if (sum + pad > end - p)
         return 0;
     *at = p + sum + pad;
-    return samples;
+    return shape;
 }
 
-/* Samples of an audio packet of some Opus packets: 0 is refusal 15, -1 is 16. */
+/* The shape of the first Opus packet of an audio packet of some: 0 is refusal 15, -1 is 16. */
 static int audio_packet(const uint8_t *p, size_t n, int streams)
 {
     const uint8_t *end = p + n;
     uint32_t first = 0;
     int differ = 0;
     for (int i = 0; i < streams; i++) {
-        uint32_t samples = opus_packet(&p, end, i < streams - 1);
-        if (samples == 0)
+        uint32_t shape = opus_packet(&p, end, i < streams - 1);
+        if (shape == 0)
             return 0;
         if (i == 0)
-            first = samples;
-        differ |= samples != first;
+            first = shape;
+        differ |= samples_of(shape) != samples_of(first);
     }
     return differ ? -1 : (int)first;
 }
@@ -164,10 +183,10 @@ static uint32_t pre_skip;
 
 static int read_head(const uint8_t *p, size_t n)
 {
-    if (n < 19 || memcmp(p, "OpusHead\1", 9))
+    if (n < 19 || memcmp(p, "OpusHead", 8))
         return 12;
-    uint32_t channels = p[9], family = p[18];
-    if (n != (family == 0 ? 19 : 21 + channels))
+    uint32_t version = p[8], channels = p[9], family = p[18], size = family == 0 ? 19 : 21 + channels;
+    if (version > 15 || n < size || (version < 2 && n > size))
         return 12;
     pre_skip = p[10] | p[11] << 8;
     streams = 1;

@@ -40,8 +40,8 @@ static int next_page(ogg_page *page)
     }
 }
 
-/* Samples of the audio packets that end on the page that was taken in, and how many they are. */
-static int page_packets(int64_t samples[255])
+/* Samples and frames of the audio packets that end on the page that was taken in, and how many they are. */
+static int page_packets(int64_t samples[255], int frames[255])
 {
     ogg_packet packet;
     int count = 0, got;
@@ -54,13 +54,14 @@ static int page_packets(int64_t samples[255])
             continue;
         }
         samples[count] = opus_packet_get_nb_samples(packet.packet, (opus_int32)packet.bytes, 48000);
+        frames[count] = opus_packet_get_nb_frames(packet.packet, (opus_int32)packet.bytes);
         if (samples[count++] <= 0)
             stop("a wrong packet");
     }
     return count;
 }
 
-static void list_packets(int64_t granule, int last, const int64_t *samples, int count)
+static void list_packets(int64_t granule, int last, const int64_t *samples, const int *frames, int count)
 {
     int64_t sum = 0;
     for (int i = 0; i < count; i++)
@@ -78,7 +79,7 @@ static void list_packets(int64_t granule, int last, const int64_t *samples, int 
             trimmed = end - granule < n ? end - granule : n;
         if (decoded < pre_skip)
             skipped = pre_skip - decoded < n - trimmed ? pre_skip - decoded : n - trimmed;
-        printf("%" PRId64 " %" PRId64 " %" PRId64 "\n", end, n, n - trimmed - skipped);
+        printf("%" PRId64 " %" PRId64 " %d %" PRId64 "\n", end, n, frames[i], n - trimmed - skipped);
         decoded += n;
         kept_sum += n - trimmed - skipped;
         skipped_sum += skipped;
@@ -92,19 +93,19 @@ int main(void)
 {
     ogg_page page;
     int64_t samples[255];
-    int started = 0;
+    int frames[255], started = 0;
 
     ogg_sync_init(&sync_state);
-    puts("end dur kept");
+    puts("end dur frames kept");
     while (next_page(&page)) {
         if (!started)
             ogg_stream_init(&stream, ogg_page_serialno(&page));
         started = 1;
         if (ogg_stream_pagein(&stream, &page) != 0)
             stop("a page of another stream");
-        int count = page_packets(samples);
+        int count = page_packets(samples, frames);
         if (count)
-            list_packets(ogg_page_granulepos(&page), ogg_page_eos(&page), samples, count);
+            list_packets(ogg_page_granulepos(&page), ogg_page_eos(&page), samples, frames, count);
     }
     printf("total kept=%" PRId64 " skipped=%" PRId64 " trimmed=%" PRId64 " hole=%" PRId64 "\n",
            kept_sum, skipped_sum, trimmed_sum, hole);

@@ -41,13 +41,15 @@ uint32_t embulgri_page_write(uint64_t flags, uint64_t granule, uint32_t serial, 
                              uint8_t *out, size_t out_n, uint64_t *written);
 
 /* Reads one audio packet of so many streams: one Opus packet for each, all but the last self-delimited (RFC 6716,
- * Appendix B). *samples: their length in samples at 48 kHz, which is one and the same.
+ * Appendix B). out: their length in samples at 48 kHz, which is one and the same; and of the first of them the number of
+ * frames, the stereo bit (the bit of value 4 of its first byte) as 0 or 1, and 1 if it is silent, else 0. It is silent if
+ * no frame has a byte; padding does not count.
  *   13  streams is not from 1 to 255
  *   15  not 13, and one of the Opus packets is illegal (RFC 6716, section 3.4), or n is 0
  *   16  neither, and the Opus packets differ in length
- *   0   none of these; the length is stored
- * Example: the byte 0xfc with streams 1 stores 960. */
-uint32_t embulgri_packet_read(const uint8_t *packet, size_t n, uint64_t streams, uint64_t *samples);
+ *   0   none of these; the four numbers are stored
+ * Example: the byte 0xfc with streams 1 stores 960, 1, 1, 1, and the bytes 0x01, 0xaa, 0xbb store 960, 2, 0, 0. */
+uint32_t embulgri_packet_read(const uint8_t *packet, size_t n, uint64_t streams, uint64_t out[4]);
 
 /* Reads one identification header (RFC 7845, section 5.1). fields: version, channels, pre-skip, input rate, output
  * gain (its 16 bits, two's complement, as a number from 0 to 65535), mapping family, stream count, coupled count.
@@ -156,16 +158,17 @@ void embulgri_start(uint64_t state[16]);
  * and seven zeros. */
 uint32_t embulgri_open(const uint64_t fields[8], const uint8_t mapping[255], uint64_t state[16]);
 
-/* Feeds one page. ends, lengths and kept: for each packet that the page lists the position of its last sample, its
- * length in samples and how many of these are kept. Places past the packets stay as they were. page_out, of this page
- * alone: packets listed, their samples, how many of these are kept, skipped and trimmed, and the hole before them. All
- * are zero on a header page and where no packet completes. Samples are at 48 kHz.
+/* Feeds one page. ends, lengths, kept and frames: for each packet that the page lists the position of its last sample,
+ * its length in samples, how many of these are kept, and the number of frames of its first Opus packet. Places past the
+ * packets stay as they were. page_out, of this page alone: packets listed, their samples, how many of these are kept,
+ * skipped and trimmed, and the hole before them. All are zero on a header page and where no packet completes. Samples are
+ * at 48 kHz.
  * carry: between two feedings it has to keep its first bytes, as many as number 2 of the state. The comment header is
  * there from place 0 once it is complete, until an unfinished audio packet is written over it. Under 12 to 19 the page's
  * first piece, if it continues a packet that is held or is one of the comment header, lies after the held bytes.
  * Under any other refusal the carry buffer is as it was.
  * The lowest number that holds is returned, but 19 and 18 before 17, and for each packet in turn 15 before 16:
- *   1   carry_n is below 61440, or ends_n, lengths_n or kept_n below 255
+ *   1   carry_n is below 61440, or ends_n, lengths_n, kept_n or frames_n below 255
  *   2   a page marked last was accepted before
  *   3   the bytes are not exactly one whole page, or the version is not 0
  *   4   the checksum differs
@@ -187,11 +190,12 @@ uint32_t embulgri_open(const uint64_t fields[8], const uint8_t mapping[255], uin
  *   18  the first page where a packet completes is marked last, and its granule position is below the pre-skip
  *   19  the reader was opened part way, and its first page where a packet completes is marked last
  *   0   none of these; the state, the lists and page_out are stored
- * Example: after the headers of a stream with pre-skip 312, a page of three packets of 960 samples with granule position
- * 2880 stores ends 960, 1920, 2880, lengths 960, 960, 960, kept 648, 960, 960 and page_out 3, 2880, 2568, 312, 0, 0. */
+ * Example: after the headers of a stream with pre-skip 312, a page of three packets of one frame of 960 samples with
+ * granule position 2880 stores ends 960, 1920, 2880, lengths 960, 960, 960, kept 648, 960, 960, frames 1, 1, 1 and
+ * page_out 3, 2880, 2568, 312, 0, 0. */
 uint32_t embulgri_feed(uint64_t state[16], const uint8_t *page, size_t n, uint8_t *carry, size_t carry_n,
                        uint64_t *ends, size_t ends_n, uint64_t *lengths, size_t lengths_n, uint64_t *kept, size_t kept_n,
-                       uint64_t page_out[6]);
+                       uint64_t *frames, size_t frames_n, uint64_t page_out[6]);
 
 #ifdef __cplusplus
 }

@@ -9,13 +9,16 @@ use crate::pieces::put_pieces;
 use crate::random::Random;
 use crate::stamps::Entry;
 
-/// A packet of 960 samples.
+/// A packet of 960 samples, in one frame.
 pub const SOUND: &[u8] = &[0x08];
 /// Comments of no vendor and of no comment.
 pub const NO_TAGS: &[u8] = b"OpusTags\0\0\0\0\0\0\0\0";
 
-/// What a packet is listed as: its end stamp, its length and its kept count.
-pub type Listed = (u64, u64, u64);
+/// The place of the stream count in a reader's numbers.
+const STREAMS: usize = 7;
+
+/// What a packet is listed as: its end stamp, its length, its kept count and its number of frames.
+pub type Listed = (u64, u64, u64, u64);
 
 /// A header of one stream.
 pub fn head_of(pre_skip: u64) -> Head {
@@ -56,7 +59,7 @@ pub fn page_of(flags: u64, granule: u64, sequence: u32, pieces: &[(Vec<u8>, bool
 /// The packets listed of a page, or the refusal's number.
 pub fn feed(feeder: &mut Feeder, page: &[u8]) -> Result<Vec<Listed>, u32> {
     let listing = feeder.feed(page, ENOUGH, "by hand")?;
-    let fields = |entry: &Entry| (entry.end, entry.length, entry.kept);
+    let fields = |entry: &Entry| (entry.end, entry.length, entry.kept, entry.frames);
     Ok(listing.entries.iter().map(fields).collect())
 }
 
@@ -73,5 +76,13 @@ pub fn full(pre_skip: u64) -> Feeder {
 pub fn opened(pre_skip: u64) -> Feeder {
     let mut feeder = Feeder::of([9; 16]);
     assert_eq!(feeder.open(&head_of(pre_skip), "by hand"), 0);
+    feeder
+}
+
+/// The reader with another number of streams.
+pub fn of_streams(mut feeder: Feeder, streams: u64) -> Feeder {
+    let mut numbers = feeder.numbers();
+    numbers[STREAMS] = streams;
+    feeder.set(numbers);
     feeder
 }

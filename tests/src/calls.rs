@@ -4,7 +4,7 @@
 use crate::ffi;
 use crate::head::{self, Head, PLACES};
 use crate::ogg::{self, Page, HEAD};
-use crate::opus;
+use crate::opus::{self, Contents};
 use crate::reading::Reading;
 use crate::writing::{assert_same_bytes, old_bytes, BEFORE, BEHIND};
 use std::fmt::Display;
@@ -24,11 +24,10 @@ pub fn check_reading(bytes: &[u8], case: &str) -> u32 {
 }
 
 /// Reads an audio packet by the library, holds it to the rules and gives what they tell.
-pub fn check_packet(packet: &[u8], streams: u64, case: impl Display) -> Result<u64, u32> {
+pub fn check_packet(packet: &[u8], streams: u64, case: impl Display) -> Result<Contents, u32> {
     let told = opus::read(packet, streams);
-    let reading =
-        Reading::by_library(|[samples]: &mut [u64; 1]| ffi::packet_read(packet, streams, samples));
-    let expected = Reading::by_rules(told.map(|samples| [samples]));
+    let reading = Reading::by_library(|out| ffi::packet_read(packet, streams, out));
+    let expected = Reading::by_rules(told.map(Contents::numbers));
     let (length, start) = (packet.len(), &packet[..packet.len().min(24)]);
     assert_eq!(
         reading, expected,

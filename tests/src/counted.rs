@@ -56,8 +56,8 @@ impl Counted {
             return;
         }
         let listed = packets.iter().filter(|packet| packet.began.is_some());
-        let length = |bytes: &[u8]| opus::read(bytes, self.streams).expect("a legal packet");
-        let samples = listed.map(|packet| length(&packet.bytes)).sum();
+        let read = |bytes: &[u8]| opus::read(bytes, self.streams).expect("a legal packet");
+        let samples = listed.map(|packet| read(&packet.bytes).samples).sum();
         self.count.add(page, samples);
     }
 

@@ -2,7 +2,7 @@
 //! leave.
 
 use crate::counted::Counted;
-use crate::feeding::{self, Lent, LIST};
+use crate::feeding::{self, Lent, LIST, LISTS};
 use crate::ffi;
 use crate::head::Head;
 use crate::ogg;
@@ -21,13 +21,13 @@ pub const MOST_LIST: usize = 2 * LIST;
 #[derive(Clone, Copy, Debug, PartialEq, Eq)]
 pub struct Room {
     pub carry: usize,
-    pub lists: [usize; 3],
+    pub lists: [usize; LISTS],
 }
 
 /// The least that is asked.
 pub const ENOUGH: Room = Room {
     carry: LONGEST,
-    lists: [LIST; 3],
+    lists: [LIST; LISTS],
 };
 
 /// The numbers of a reader and the memory lent, each with places around it that stay.
@@ -35,16 +35,17 @@ pub const ENOUGH: Room = Room {
 struct Memory {
     state: [u64; NUMBERS + 2],
     carry: Vec<u8>,
-    lists: [Vec<u64>; 3],
+    lists: [Vec<u64>; LISTS],
 }
 
 impl Memory {
     fn new() -> Memory {
-        let list = |mark: u64| (0..).map(move |place| 0xa5a5_0000_5a5a_0000 + mark + place);
+        let list = |mark: u64| (mark..).map(|place| 0xa5a5_0000_5a5a_0000 + place);
+        let marks = [0x1000, 0x2000, 0x3000, 0x4000];
         Memory {
             state: [0xa5a5_5a5a; NUMBERS + 2],
             carry: old_bytes(BEFORE + MOST_CARRY + BEHIND),
-            lists: [0x1000, 0x2000, 0x3000].map(|mark| list(mark).take(MOST_LIST + 2).collect()),
+            lists: marks.map(|mark| list(mark).take(MOST_LIST + 2).collect()),
         }
     }
 
@@ -58,15 +59,13 @@ impl Memory {
 
     /// The reader's numbers, and what is lent.
     fn lend(&mut self, room: Room) -> (&mut [u64; NUMBERS], Lent<'_>) {
-        let [ends, lengths, kept] = &mut self.lists;
-        let [ends_room, lengths_room, kept_room] = room.lists;
+        let mut rooms = room.lists.into_iter();
         let lent = Lent {
             carry: &mut self.carry[BEFORE..][..room.carry],
-            lists: [
-                &mut ends[1..][..ends_room],
-                &mut lengths[1..][..lengths_room],
-                &mut kept[1..][..kept_room],
-            ],
+            lists: self.lists.each_mut().map(|list| {
+                let room = rooms.next().expect("a room for each list");
+                &mut list[1..][..room]
+            }),
         };
         let numbers = self.state[1..].first_chunk_mut().expect("sixteen places");
         (numbers, lent)

@@ -5,7 +5,7 @@ use crate::feed_audio::{DROPPED, EARLY_ENDS, ENDS_ON_NOTHING, GRANULES, MIXED, P
 use crate::feed_calls::{Room, ENOUGH, MOST_CARRY, MOST_LIST};
 use crate::feed_faults::{Case, FIELDS, LONG, LONG_HELD, SERIALS, SHORT};
 use crate::feed_headers::{COMMENT_PAGE, FIRST_PAGE};
-use crate::feeding::LIST;
+use crate::feeding::{LIST, LISTS};
 use crate::inputs::Change;
 use crate::ogg;
 use crate::random::Random;
@@ -38,7 +38,7 @@ pub fn room(random: &mut Random) -> Room {
     }
     Room {
         carry: random.within(LONGEST..=MOST_CARRY),
-        lists: [(); 3].map(|()| random.within(LIST..=MOST_LIST)),
+        lists: [(); LISTS].map(|()| random.within(LIST..=MOST_LIST)),
     }
 }
 

@@ -3,8 +3,8 @@
 
 use crate::feed_calls::Room;
 use crate::feeding::{
-    CONTINUED, FIRST, LONG_PACKET, OTHER_SERIAL, OUT_OF_SEQUENCE, SHORT_ROOM, WRONG_CONTINUED,
-    WRONG_FLAGS,
+    CONTINUED, FIRST, LISTS, LONG_PACKET, OTHER_SERIAL, OUT_OF_SEQUENCE, SHORT_ROOM,
+    WRONG_CONTINUED, WRONG_FLAGS,
 };
 use crate::inputs::{change, Change};
 use crate::ogg::Page;
@@ -66,11 +66,14 @@ pub const SHORT: &[Change<Case>] = &[
     change("kept counts one short", &[SHORT_ROOM], |_, case| {
         case.room.lists[2] = 254
     }),
+    change("frames one short", &[SHORT_ROOM], |_, case| {
+        case.room.lists[3] = 254
+    }),
     change("a short list", &[SHORT_ROOM], |random, case| {
-        case.room.lists[random.below(3)] = random.below(255)
+        case.room.lists[random.below(LISTS)] = random.below(255)
     }),
     change("no place in a list", &[SHORT_ROOM], |random, case| {
-        case.room.lists[random.below(3)] = 0
+        case.room.lists[random.below(LISTS)] = 0
     }),
 ];
 

@@ -45,12 +45,14 @@ pub const NO_GRANULE: u64 = u64::MAX;
 pub const MOST_GRANULE: u64 = (1 << 63) - 1;
 /// The places that each of the lists must have.
 pub const LIST: usize = 255;
+/// How many lists a call is lent.
+pub const LISTS: usize = 4;
 
-/// The memory that a call is lent: the carry buffer, and the lists of end stamps, lengths and kept
-/// counts.
+/// The memory that a call is lent: the carry buffer, and the lists of end stamps, lengths, kept counts
+/// and frames.
 pub struct Lent<'a> {
     pub carry: &'a mut [u8],
-    pub lists: [&'a mut [u64]; 3],
+    pub lists: [&'a mut [u64]; LISTS],
 }
 
 /// Feeds a page: what it lists, or the refusal's number. The reader and the lists change only where
@@ -83,7 +85,7 @@ pub fn feed(reader: &mut Reader, bytes: &[u8], lent: &mut Lent) -> Result<Listin
     next.count(&listing);
     *reader = next;
     for (place, entry) in listing.entries.iter().enumerate() {
-        let fields = [entry.end, entry.length, entry.kept];
+        let fields = [entry.end, entry.length, entry.kept, entry.frames];
         for (list, field) in lent.lists.iter_mut().zip(fields) {
             list[place] = field;
         }
@@ -235,14 +237,14 @@ impl Feeding<'_> {
     /// 15 to 19. Numbers from outside can say that there are 0 streams, which count as 1.
     fn take_audio(&self, next: &mut Reader, carry: &[u8]) -> Result<Listing, u32> {
         let streams = u64::from(next.streams.max(1));
-        let mut lengths = Vec::new();
+        let mut packets = Vec::new();
         for (place, piece) in self.pieces.iter().enumerate().filter(|(_, p)| p.ends) {
             let packet = match (place, self.unfinished) {
                 (0, Unfinished::Dropped) => continue,
                 (0, _) => self.continued(carry),
                 _ => piece.bytes,
             };
-            lengths.push(opus::read(packet, streams)?);
+            packets.push(opus::read(packet, streams)?);
         }
         let last = self.page.flags & LAST != 0;
         next.phase = if last { Phase::Ended } else { Phase::Audio };
@@ -255,7 +257,7 @@ impl Feeding<'_> {
             to_skip: next.to_skip,
             granule: self.page.granule,
             last,
-            lengths: &lengths,
+            packets: &packets,
         };
         let listing = completing.listing()?;
         next.position = Position::At(self.page.granule);

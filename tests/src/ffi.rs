@@ -23,7 +23,7 @@ extern "C" {
         out_n: usize,
         written: *mut u64,
     ) -> u32;
-    fn embulgri_packet_read(packet: *const u8, n: usize, streams: u64, samples: *mut u64) -> u32;
+    fn embulgri_packet_read(packet: *const u8, n: usize, streams: u64, out: *mut u64) -> u32;
     fn embulgri_head_read(packet: *const u8, n: usize, fields: *mut u64, mapping: *mut u8) -> u32;
     fn embulgri_head_write(
         fields: *const u64,
@@ -62,6 +62,8 @@ extern "C" {
         lengths_n: usize,
         kept: *mut u64,
         kept_n: usize,
+        frames: *mut u64,
+        frames_n: usize,
         page_out: *mut u64,
     ) -> u32;
 }
@@ -97,10 +99,10 @@ pub fn page_write(page: &Page, out: &mut [u8], written: &mut u64) -> u32 {
     }
 }
 
-pub fn packet_read(packet: &[u8], streams: u64, samples: &mut u64) -> u32 {
-    // SAFETY: the pointer and the length are those of one slice; `samples` is the one place that is
+pub fn packet_read(packet: &[u8], streams: u64, out: &mut [u64; 4]) -> u32 {
+    // SAFETY: the pointer and the length are those of one slice; `out` has the four places that are
     // written.
-    unsafe { embulgri_packet_read(packet.as_ptr(), packet.len(), streams, samples) }
+    unsafe { embulgri_packet_read(packet.as_ptr(), packet.len(), streams, out.as_mut_ptr()) }
 }
 
 pub fn head_read(packet: &[u8], fields: &mut [u64; 8], mapping: &mut [u8; PLACES]) -> u32 {
@@ -195,7 +197,7 @@ pub fn open(head: &Head, state: &mut [u64; NUMBERS]) -> u32 {
 }
 
 pub fn feed(state: &mut [u64; NUMBERS], page: &[u8], lent: Lent, out: &mut [u64; 6]) -> u32 {
-    let [ends, lengths, kept] = lent.lists;
+    let [ends, lengths, kept, frames] = lent.lists;
     // SAFETY: each pointer goes with the length of its own slice, and `state` and `out` have the
     // places that are written; all but the page are borrowed mutably, so they overlap nothing.
     unsafe {
@@ -211,6 +213,8 @@ pub fn feed(state: &mut [u64; NUMBERS], page: &[u8], lent: Lent, out: &mut [u64;
             lengths.len(),
             kept.as_mut_ptr(),
             kept.len(),
+            frames.as_mut_ptr(),
+            frames.len(),
             out.as_mut_ptr(),
         )
     }

@@ -15,6 +15,8 @@ pub const MIXED_LENGTHS: u32 = 16;
 pub const LARGEST_FRAME: usize = 1275;
 /// The length of the longest Opus packet, 120 ms.
 pub const MOST_SAMPLES: u64 = 5760;
+/// The number of frames in it if they are the shortest, of 2.5 ms.
+pub const MOST_FRAMES: usize = 48;
 
 /// How an Opus packet ends: where the bytes end, or where one more coded length says.
 #[derive(Clone, Copy)]
@@ -74,6 +76,16 @@ pub struct Packet {
 }
 
 impl Packet {
+    /// What is told of an audio packet that begins with this one, if it is legal.
+    pub fn contents(&self) -> Contents {
+        Contents {
+            samples: self.frames.len() as u64 * frame_samples(self.config),
+            frames: self.frames.len() as u64,
+            stereo: self.stereo,
+            silent: self.frames.iter().all(|&size| size == 0),
+        }
+    }
+
     /// The bytes of the packet; those of the frames and of the padding are random.
     pub fn encode(&self, form: Form, random: &mut Random) -> Vec<u8> {
         let (code, variable, padding) = match self.code {
@@ -129,32 +141,89 @@ pub fn frame_samples(config: u8) -> u64 {
     tenths_of_milliseconds * 48 / 10
 }
 
-/// The length in samples of an audio packet of so many streams, or the refusal's number.
-pub fn read(packet: &[u8], streams: u64) -> Result<u64, u32> {
+/// What is told of an audio packet: its length in samples, and of its first Opus packet the number of
+/// frames, whether its stereo bit is set, and whether it is silent: no frame has a byte.
+#[derive(Clone, Copy, Debug, PartialEq, Eq)]
+pub struct Contents {
+    pub samples: u64,
+    pub frames: u64,
+    pub stereo: bool,
+    pub silent: bool,
+}
+
+impl Contents {
+    /// The four numbers that reading gives.
+    pub fn numbers(self) -> [u64; 4] {
+        [
+            self.samples,
+            self.frames,
+            self.stereo.into(),
+            self.silent.into(),
+        ]
+    }
+}
+
+/// An Opus packet that was read.
+#[derive(Debug)]
+pub struct Opus {
+    /// The two low bits of the TOC byte.
+    pub code: u8,
+    pub stereo: bool,
+    /// Whether the frames can differ in size.
+    pub variable: bool,
+    /// The bytes of padding, if the packet is marked as padded.
+    pub padding: Option<usize>,
+    pub samples: u64,
+    /// The sizes of the frames in bytes.
+    pub sizes: Vec<usize>,
+}
+
+impl Opus {
+    pub fn frames(&self) -> u64 {
+        self.sizes.len() as u64
+    }
+
+    pub fn is_silent(&self) -> bool {
+        self.sizes.iter().sum::<usize>() == 0
+    }
+}
+
+/// What is told of an audio packet of so many streams, or the refusal's number.
+pub fn read(packet: &[u8], streams: u64) -> Result<Contents, u32> {
+    let packets = read_packets(packet, streams)?;
+    let first = &packets[0];
+    Ok(Contents {
+        samples: first.samples,
+        frames: first.frames(),
+        stereo: first.stereo,
+        silent: first.is_silent(),
+    })
+}
+
+/// The Opus packets of an audio packet of so many streams, or the refusal's number.
+pub fn read_packets(packet: &[u8], streams: u64) -> Result<Vec<Opus>, u32> {
     if !(1..=255).contains(&streams) {
         return Err(BAD_STREAMS);
     }
-    let lengths = lengths(packet, streams).ok_or(ILLEGAL_PACKET)?;
-    if lengths.iter().all(|&length| length == lengths[0]) {
-        Ok(lengths[0])
+    let mut rest = packet;
+    let packets: Vec<Opus> = (0..streams)
+        .map(|place| take_packet(&mut rest, Form::at(place, streams)))
+        .collect::<Option<_>>()
+        .ok_or(ILLEGAL_PACKET)?;
+    let samples = packets[0].samples;
+    if packets.iter().all(|packet| packet.samples == samples) {
+        Ok(packets)
     } else {
         Err(MIXED_LENGTHS)
     }
 }
 
-/// The length of each Opus packet in an audio packet, if all of them are legal.
-fn lengths(packet: &[u8], streams: u64) -> Option<Vec<u64>> {
-    let mut rest = packet;
-    (0..streams)
-        .map(|place| take_packet(&mut rest, Form::at(place, streams)))
-        .collect()
-}
-
-/// Takes one Opus packet off the front and gives its length in samples, if it is legal. Codes 0 to
-/// 2 are read as the CBR and VBR packets of one or two frames that they abbreviate.
-fn take_packet(rest: &mut &[u8], form: Form) -> Option<u64> {
+/// Takes one Opus packet off the front, if it is legal. Codes 0 to 2 are read as the CBR and VBR
+/// packets of one or two frames that they abbreviate.
+fn take_packet(rest: &mut &[u8], form: Form) -> Option<Opus> {
     let toc = *rest.split_off_first()?;
-    let (count, variable, padded) = match toc & 3 {
+    let code = toc & 3;
+    let (count, variable, is_padded) = match code {
         0 => (1, false, false),
         1 => (2, false, false),
         2 => (2, true, false),
@@ -167,7 +236,11 @@ fn take_packet(rest: &mut &[u8], form: Form) -> Option<u64> {
     if count == 0 || samples > MOST_SAMPLES {
         return None;
     }
-    let padding = if padded { take_padding(rest)? } else { 0 };
+    let padding = match is_padded {
+        true => Some(take_padding(rest)?),
+        false => None,
+    };
+    let padded = padding.unwrap_or(0);
     let mut sizes = Vec::new();
     if variable {
         for _ in 1..count {
@@ -178,14 +251,21 @@ fn take_packet(rest: &mut &[u8], form: Form) -> Option<u64> {
     let size = match form {
         Form::SelfDelimited => take_length(rest)?,
         Form::Plain => {
-            let taken = sizes.iter().sum::<usize>() + padding;
+            let taken = sizes.iter().sum::<usize>() + padded;
             share(rest.len().checked_sub(taken)?, open)?
         }
     };
     sizes.resize(usize::from(count), size);
-    rest.split_off(..sizes.iter().sum::<usize>() + padding)?;
+    rest.split_off(..sizes.iter().sum::<usize>() + padded)?;
     let legal = sizes.iter().all(|&size| size <= LARGEST_FRAME);
-    legal.then_some(samples)
+    legal.then_some(Opus {
+        code,
+        stereo: toc & 4 != 0,
+        variable,
+        padding,
+        samples,
+        sizes,
+    })
 }
 
 /// The size of each of so many frames of one size that fill `length` bytes, if there is one.

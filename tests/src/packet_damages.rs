@@ -166,7 +166,7 @@ fn last(audio: &mut Audio) -> &mut Vec<u8> {
 fn put_another_length(random: &mut Random, audio: &mut Audio, place: usize) {
     let other = loop {
         let other = samples(random);
-        if other != audio.samples {
+        if other != audio.contents.samples {
             break other;
         }
     };

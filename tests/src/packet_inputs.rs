@@ -1,7 +1,10 @@
 //! Legal Opus packets of all shapes for the random runs, and audio packets made of them.
 
-use crate::opus::{frame_samples, Code, Form, Packet, Padding, LARGEST_FRAME, MOST_SAMPLES};
+use crate::opus::{
+    frame_samples, Code, Contents, Form, Packet, Padding, LARGEST_FRAME, MOST_SAMPLES,
+};
 use crate::random::Random;
+use std::borrow::Borrow;
 
 /// The sizes of frames where a coded length or a rule changes.
 const EDGES: [usize; 12] = [1, 250, 251, 252, 253, 254, 255, 256, 1019, 1020, 1274, 1275];
@@ -11,11 +14,25 @@ const EDGES: [usize; 12] = [1, 250, 251, 252, 253, 254, 255, 256, 1019, 1020, 12
 pub struct Audio {
     pub packets: Vec<Vec<u8>>,
     pub streams: u64,
-    /// The length in samples of each Opus packet before any damage.
-    pub samples: u64,
+    /// What is told of it before any damage.
+    pub contents: Contents,
 }
 
 impl Audio {
+    /// An audio packet of these Opus packets.
+    pub fn of(packets: &[impl Borrow<Packet>], random: &mut Random) -> Audio {
+        let streams = packets.len() as u64;
+        let form = |place| Form::at(place, streams);
+        Audio {
+            packets: (0..)
+                .zip(packets)
+                .map(|(place, packet)| packet.borrow().encode(form(place), random))
+                .collect(),
+            streams,
+            contents: packets[0].borrow().contents(),
+        }
+    }
+
     pub fn bytes(&self) -> Vec<u8> {
         self.packets.concat()
     }
@@ -39,17 +56,13 @@ pub fn audio(random: &mut Random) -> Audio {
 /// A legal audio packet of so many streams.
 pub fn audio_of(random: &mut Random, streams: usize) -> Audio {
     let samples = samples(random);
-    let mut audio = Audio {
-        packets: vec![Vec::new(); streams],
-        streams: streams as u64,
-        samples,
-    };
-    for place in 0..streams {
-        let largest = largest_frame(random, streams);
-        let packet = packet(random, samples, largest);
-        audio.packets[place] = packet.encode(audio.form(place), random);
-    }
-    audio
+    let packets: Vec<Packet> = (0..streams)
+        .map(|_| {
+            let largest = largest_frame(random, streams);
+            packet(random, samples, largest)
+        })
+        .collect();
+    Audio::of(&packets, random)
 }
 
 /// A length in samples that a legal Opus packet can have.
@@ -105,7 +118,7 @@ pub fn padding(random: &mut Random) -> Option<Padding> {
 }
 
 /// A code that so many frames can have.
-fn code(random: &mut Random, count: usize) -> Code {
+pub fn code(random: &mut Random, count: usize) -> Code {
     match (count, random.below(4)) {
         (1, 0..=1) => Code::One,
         (2, 0) => Code::TwoEqual,
@@ -116,7 +129,7 @@ fn code(random: &mut Random, count: usize) -> Code {
 }
 
 /// The sizes of so many frames that a code can have.
-fn sizes(random: &mut Random, code: Code, count: usize, largest: usize) -> Vec<usize> {
+pub fn sizes(random: &mut Random, code: Code, count: usize, largest: usize) -> Vec<usize> {
     match code {
         Code::TwoSized | Code::Vbr(_) => (0..count).map(|_| size(random, largest)).collect(),
         Code::One | Code::TwoEqual | Code::Cbr(_) => vec![size(random, largest); count],

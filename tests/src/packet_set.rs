@@ -1,6 +1,7 @@
 //! A fixed set of legal audio packets, of every code alone and next to every other.
 
-use crate::opus::{Code, Form, Packet, Padding};
+use crate::opus::{Code, Packet, Padding};
+use crate::packet_inputs::Audio;
 use crate::random::Random;
 
 pub const fn padding(full: usize, last: u8) -> Option<Padding> {
@@ -14,15 +15,6 @@ pub fn packet(config: u8, code: Code, frames: &[usize]) -> Packet {
         code,
         frames: frames.to_vec(),
     }
-}
-
-/// The bytes of Opus packets as one audio packet.
-pub fn joined(packets: &[&Packet], random: &mut Random) -> Vec<u8> {
-    let streams = packets.len() as u64;
-    (0..)
-        .zip(packets)
-        .flat_map(|(place, packet)| packet.encode(Form::at(place, streams), random))
-        .collect()
 }
 
 /// One packet of each code, with and without padding, of frames of these sizes. All of them have
@@ -40,25 +32,24 @@ pub fn one_of_each_code(sizes: [usize; 8]) -> [Packet; 7] {
     ]
 }
 
-/// Audio packets of each code alone, of each two codes, and of all of them in each rotation, with
-/// their numbers of streams.
-pub fn legal_set(random: &mut Random) -> Vec<(Vec<u8>, u64)> {
+/// Audio packets of each code alone, of each two codes, and of all of them in each rotation.
+pub fn legal_set(random: &mut Random) -> Vec<Audio> {
     let mut set = Vec::new();
     for sizes in [[0; 8], [252, 0, 1, 255, 251, 1275, 0, 300]] {
         for packet in &one_of_each_code(sizes) {
-            set.push((joined(&[packet], random), 1));
+            set.push(Audio::of(&[packet], random));
         }
     }
     let small = one_of_each_code([3, 0, 5, 1, 2, 253, 0, 4]);
     for first in &small {
         for second in &small {
-            set.push((joined(&[first, second], random), 2));
+            set.push(Audio::of(&[first, second], random));
         }
     }
     let mut all: Vec<&Packet> = small.iter().collect();
     for _ in 0..7 {
         all.rotate_left(1);
-        set.push((joined(&all, random), 7));
+        set.push(Audio::of(&all, random));
     }
     set
 }

@@ -3,8 +3,9 @@
 
 use crate::head::Head;
 use crate::head_inputs::head_to_read;
-use crate::opus::{Code, Form, Packet, Padding, LARGEST_FRAME};
-use crate::packet_inputs::{audio_of, config};
+use crate::opus::{Code, Packet, Padding, LARGEST_FRAME};
+use crate::packet_inputs::{audio_of, config, Audio};
+use crate::packet_shapes::shaped_of;
 use crate::random::Random;
 use crate::tags::{encode, LONGEST};
 use crate::tags_inputs::tags;
@@ -17,6 +18,15 @@ const LONG_LENGTHS: [usize; 4] = [LONGEST, LONGEST - 1, 61_200, 61_199];
 pub struct Sound {
     pub bytes: Vec<u8>,
     pub samples: u64,
+}
+
+impl Sound {
+    fn of(audio: &Audio) -> Sound {
+        Sound {
+            bytes: audio.bytes(),
+            samples: audio.contents.samples,
+        }
+    }
 }
 
 /// A legal header of any version that is read, mostly of few streams and of a usual pre-skip.
@@ -59,7 +69,8 @@ pub fn sounds(random: &mut Random, streams: usize) -> Vec<Sound> {
         1..=3 => (random.below(3), sound),
         4 => (random.within(1..=3), long),
         5..=8 => (random.within(1..=6), padded),
-        9..=20 => (random.within(1..=12), tiny),
+        9..=14 => (random.within(1..=12), tiny),
+        15..=20 => (random.within(1..=12), framed),
         _ => (random.within(1..=10), sound),
     };
     (0..count).map(|_| kind(random, streams)).collect()
@@ -67,12 +78,20 @@ pub fn sounds(random: &mut Random, streams: usize) -> Vec<Sound> {
 
 /// A legal audio packet of any kind that a reader takes.
 pub fn sound(random: &mut Random, streams: usize) -> Sound {
+    taken(random, streams, audio_of)
+}
+
+/// One whose Opus packets have any numbers of frames.
+fn framed(random: &mut Random, streams: usize) -> Sound {
+    taken(random, streams, shaped_of)
+}
+
+/// An audio packet that is not longer than a reader takes.
+fn taken(random: &mut Random, streams: usize, make: fn(&mut Random, usize) -> Audio) -> Sound {
     loop {
-        let audio = audio_of(random, streams);
-        let bytes = audio.bytes();
-        if bytes.len() <= LONGEST {
-            let samples = audio.samples;
-            return Sound { bytes, samples };
+        let sound = Sound::of(&make(random, streams));
+        if sound.bytes.len() <= LONGEST {
+            return sound;
         }
     }
 }
@@ -87,7 +106,7 @@ pub fn tiny(random: &mut Random, streams: usize) -> Sound {
         frames: vec![size],
     };
     let packets: Vec<Packet> = (0..streams).map(packet).collect();
-    joined(random, &packets)
+    Sound::of(&Audio::of(&packets, random))
 }
 
 /// A legal audio packet of one of the lengths where something changes.
@@ -120,17 +139,5 @@ pub fn of_length(random: &mut Random, streams: usize, length: usize) -> Sound {
     };
     let mut packets: Vec<Packet> = (1..streams).map(|_| plain(Code::One, 0)).collect();
     packets.push(plain(Code::Cbr(Some(padding)), size));
-    joined(random, &packets)
-}
-
-/// An audio packet of Opus packets of one length.
-fn joined(random: &mut Random, packets: &[Packet]) -> Sound {
-    let streams = packets.len() as u64;
-    let encoded = (0..).zip(packets);
-    Sound {
-        bytes: encoded
-            .flat_map(|(place, packet)| packet.encode(Form::at(place, streams), random))
-            .collect(),
-        samples: crate::opus::frame_samples(packets[0].config),
-    }
+    Sound::of(&Audio::of(&packets, random))
 }

@@ -1,6 +1,7 @@
 //! Stamps and cuts on one page where an audio packet completes, straight from RFC 7845 (section 4)
 //! and the rules in docs/PROMISES.md: in numbers that cannot overflow, and each sample by itself.
 
+use crate::opus::Contents;
 use crate::reader::Position;
 
 /// The granule position is too small.
@@ -17,16 +18,17 @@ pub struct Completing<'a> {
     pub to_skip: u16,
     pub granule: u64,
     pub last: bool,
-    /// The lengths in samples of the packets that are listed.
-    pub lengths: &'a [u64],
+    /// The packets that are listed.
+    pub packets: &'a [Contents],
 }
 
-/// A listed packet: its end stamp, its length and its kept count.
+/// A listed packet: its end stamp, its length, its kept count and its number of frames.
 #[derive(Clone, Copy, Debug, PartialEq, Eq)]
 pub struct Entry {
     pub end: u64,
     pub length: u64,
     pub kept: u64,
+    pub frames: u64,
 }
 
 /// What becomes of the samples of a page.
@@ -60,7 +62,8 @@ impl Listing {
 
 impl Completing<'_> {
     fn samples(&self) -> i128 {
-        self.lengths.iter().map(|&length| i128::from(length)).sum()
+        let lengths = self.packets.iter().map(|packet| packet.samples);
+        lengths.map(i128::from).sum()
     }
 
     /// The position before the page, or the refusal's number.
@@ -94,17 +97,18 @@ impl Completing<'_> {
         let runs_forward = self.last && g < before + d;
         let mut position = if runs_forward { before } else { g - d };
         let mut decoded = 0;
-        for &length in self.lengths {
+        for packet in self.packets {
             let kept_before = listing.kept;
-            for _ in 0..length {
+            for _ in 0..packet.samples {
                 position += 1;
                 self.count(&mut listing, position, decoded);
                 decoded += 1;
             }
             listing.entries.push(Entry {
                 end: position as u64,
-                length,
+                length: packet.samples,
                 kept: listing.kept - kept_before,
+                frames: packet.frames,
             });
         }
         Ok(listing)

@@ -2,6 +2,7 @@
 //! the counts are printed and held to a minimum.
 
 use crate::inputs::Change;
+use crate::opus::MOST_FRAMES;
 use crate::reader::Totals;
 use std::collections::BTreeMap;
 use std::io::{self, Write};
@@ -97,8 +98,8 @@ impl Aims {
     pub fn finish<T>(&self, ways: &[Change<T>], least: fn(&Change<T>) -> usize) {
         for way in ways {
             let count = self.counts.get(way.name).copied().unwrap_or(0);
-            say(&format!("  {:?} by {}: {count}", way.answers, way.name));
-            assert!(count >= least(way), "{}: too few", way.name);
+            let name = format!("{:?} by {}", way.answers, way.name);
+            hold(&name, count, least(way));
         }
     }
 }
@@ -130,25 +131,59 @@ impl Moves {
     }
 }
 
-/// Counts of the versions of the identification headers that a run accepted.
-#[derive(Default)]
-pub struct Versions([usize; 16]);
+/// Counts of a number that every input has, from 0 to `N - 1`.
+pub struct Spread<const N: usize>([usize; N]);
 
-impl Versions {
-    pub fn add(&mut self, version: u64) {
-        self.0[version as usize] += 1;
+/// Counts of the versions of identification headers.
+pub type Versions = Spread<16>;
+/// Counts of the numbers of frames of packets.
+pub type Frames = Spread<{ MOST_FRAMES + 1 }>;
+
+impl<const N: usize> Default for Spread<N> {
+    fn default() -> Spread<N> {
+        Spread([0; N])
+    }
+}
+
+impl<const N: usize> Spread<N> {
+    pub fn add(&mut self, number: u64) {
+        self.0[number as usize] += 1;
     }
 
-    /// Prints the counts. Fails unless each version from `first` on came often enough.
+    /// Prints the counts. Fails unless each number from `first` on came often enough.
     pub fn finish(&self, run: &str, first: usize, least: usize) {
-        let (counts, total) = (self.0, self.0.iter().sum::<usize>());
-        say(&format!("{run}: {total}, of versions 0 to 15: {counts:?}"));
+        let (counts, total) = (&self.0[first..], self.0.iter().sum::<usize>());
+        let last = N - 1;
+        say(&format!("{run}: {total}, of {first} to {last}: {counts:?}"));
         let is_enough = |&count: &usize| count >= least;
-        assert!(
-            counts[first..].iter().all(is_enough),
-            "{run}: too few of a version"
-        );
+        assert!(counts.iter().all(is_enough), "{run}: too few of a number");
     }
+}
+
+/// Counts of the inputs of each class, by its name. An input can be of several.
+#[derive(Default)]
+pub struct Classes {
+    counts: BTreeMap<String, usize>,
+}
+
+impl Classes {
+    pub fn add(&mut self, class: String) {
+        *self.counts.entry(class).or_default() += 1;
+    }
+
+    /// Prints the counts of these classes. Fails if one is below the least that is asked.
+    pub fn finish(&self, classes: &[String], least: usize) {
+        for class in classes {
+            let count = self.counts.get(class).copied().unwrap_or(0);
+            hold(class, count, least);
+        }
+    }
+}
+
+/// Prints a count. Fails if it is below the least that is asked.
+fn hold(name: &str, count: usize, least: usize) {
+    say(&format!("  {name}: {count}"));
+    assert!(count >= least, "{name}: too few");
 }
 
 /// Prints a line that shows in a passing run too: the test harness holds back what `eprintln!`

@@ -24,7 +24,7 @@ class Findings:
 
     def __init__(self, directory):
         self.directory = directory
-        self.files = self.packets = self.explained = self.faults = 0
+        self.files = self.packets = self.several = self.explained = self.faults = 0
         self.lines = []
 
     def fault(self, path, text):
@@ -164,6 +164,7 @@ def compare(path, options, findings):
     reader, last = read(path.read_bytes())
     findings.files += 1
     findings.packets += len(reader.entries)
+    findings.several += sum(entry.frames > 1 for entry in reader.entries)
     if last.startswith('refused ') != options.refused:
         findings.fault(path, last)
         return
@@ -194,8 +195,9 @@ def main():
             compare(path, options, findings)
         if not findings.files:
             findings.fault(directory, 'no Ogg Opus file')
-        print(f'{name}: {findings.files} files, {findings.packets} packets, {findings.explained} differences explained, '
-              f'{findings.faults} not explained', *findings.lines, sep='\n', flush=True)
+        print(f'{name}: {findings.files} files, {findings.packets} packets, {findings.several} of several frames, '
+              f'{findings.explained} differences explained, {findings.faults} not explained', *findings.lines, sep='\n',
+              flush=True)
         faults += findings.faults
     sys.exit(faults > 0)
 

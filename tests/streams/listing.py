@@ -2,12 +2,13 @@
 """The listing of an Ogg Opus stream, an implementation of its own from RFC 7845, 6716 and 3533.
 
 usage: tests/streams/listing.py < FILE
-Prints what the program `list` prints: `end dur kept`, a line for each packet, and the total or `refused N page K`.
+Prints what the program `list` prints: `end dur frames kept`, a line for each packet, and the total or
+`refused N page K`.
 """
 import sys
 from typing import NamedTuple
 
-from opus import packet_samples, read_head, read_tags
+from opus import read_head, read_packet, read_tags
 from pages import CONTINUED, FIRST, LAST, NO_GRANULE, Refused, cut, packets_of, read_page, refuse
 
 LONGEST_PACKET = 61440
@@ -16,6 +17,7 @@ LONGEST_PACKET = 61440
 class Entry(NamedTuple):
     end: int
     dur: int
+    frames: int
     kept: int
     trimmed: int
     page: int
@@ -52,13 +54,13 @@ class Reader:
         elif packets and not self.tags:
             self.tags = read_tags(packets[0])
         elif packets:
-            self.list(page.granule, last, [packet_samples(packet, self.head.streams) for packet in packets])
+            self.list(page.granule, last, [read_packet(packet, self.head.streams) for packet in packets])
         self.held, self.ended = rest, last
         self.pages += 1
 
-    def list(self, granule, last, lengths):
-        """The entries of the packets that end on a page (RFC 7845, 4)."""
-        samples = sum(lengths)
+    def list(self, granule, last, packets):
+        """The entries of the packets, given as (samples, frames), that end on a page (RFC 7845, 4)."""
+        samples = sum(dur for dur, _ in packets)
         if self.position is None:
             refuse(18, last and granule < self.head.pre_skip)
             refuse(17, not last and granule < samples)
@@ -69,12 +71,12 @@ class Reader:
             self.hole += max(granule - before - samples, 0)
         # Cut at its end, a last page starts where the one before it ended; any other page ends at its granule position.
         end = before if last and granule < before + samples else granule - samples
-        for dur in lengths:
+        for dur, frames in packets:
             end += dur
             trimmed = min(max(end - granule, 0), dur)
             skipped = min(max(self.head.pre_skip - self.decoded, 0), dur - trimmed)
             kept = dur - trimmed - skipped
-            self.entries.append(Entry(end, dur, kept, trimmed, self.pages))
+            self.entries.append(Entry(end, dur, frames, kept, trimmed, self.pages))
             self.decoded += dur
             self.trimmed += trimmed
             self.skipped += skipped
@@ -96,7 +98,7 @@ def read(data):
 
 def listing(reader, last):
     """The listing as the bytes that the program prints, of what `read` gives."""
-    lines = ['end dur kept'] + [f'{e.end} {e.dur} {e.kept}' for e in reader.entries] + [last]
+    lines = ['end dur frames kept'] + [f'{e.end} {e.dur} {e.frames} {e.kept}' for e in reader.entries] + [last]
     return ''.join(line + '\n' for line in lines).encode()
 
 

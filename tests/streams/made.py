@@ -4,6 +4,7 @@ import struct
 from pages import CONTINUED, FIRST, LAST, NO_GRANULE, Page, lacing_of, write_page
 
 SERIAL = 0x31415926
+TOCS = {120: 0xe0, 240: 0xe8, 480: 0xf0, 960: 0xf8, 1920: 0x10, 2880: 0x18}     # first bytes by the samples of a frame
 
 
 def head(channels=2, family=0, table=b'', version=1):
@@ -51,6 +52,32 @@ def long_stream(packets):
         count = min(255, packets - at)
         pages.append((0, 120 * (at + count), b'\x01' * count, b'\xe0' * count))
     return stream(pages)
+
+
+def constant(frame, count, size, delimited):
+    """An Opus packet of code 3: frames of so many samples, their count, and the bytes of each."""
+    return bytes([TOCS[frame] | 3, count]) + bytes([size] * delimited) + bytes(size * count)
+
+
+def frames_stream(streams):
+    """A stream of packets of any number of frames, and these numbers. Packets of one length in other frames follow each
+    other, and of several streams the second has other frames than the first where the length allows it."""
+    lengths = [*range(120, 5761, 120), *[960, 5760, 960, 1920, 2880] * 4]
+    packets, samples, frames = [], [], []
+    for length in lengths:
+        ways = [(frame, length // frame) for frame in TOCS if length % frame == 0]
+        for i, (frame, count) in enumerate(ways):
+            others = [constant(*ways[(i - k) % len(ways)], k % 3, k < streams - 1) for k in range(1, streams)]
+            packets.append(constant(frame, count, i % 3, streams > 1) + b''.join(others))
+            samples.append(length)
+            frames.append(count)
+    table = bytes([streams, 0, *range(streams)])
+    pages = [whole(FIRST, 0, head(streams, 255, table)), whole(0, 0, tags())]
+    for at in range(0, len(packets), 50):
+        last = at + 50 >= len(packets)
+        granule = sum(samples[:at + 50]) - 1000 * last
+        pages.append(whole(LAST * last, granule, *packets[at:at + 50]))
+    return stream(pages), frames
 
 
 def version_streams():

@@ -38,22 +38,22 @@ class Packet:
     def __init__(self, data, delimited):
         self.data, self.at = data, 0
         toc = self.byte()
-        frames, variable, padding = (1, 2, 2, 0)[toc & 3], toc & 3 == 2, 0
+        self.frames, variable, padding = (1, 2, 2, 0)[toc & 3], toc & 3 == 2, 0
         if toc & 3 == 3:
             count = self.byte()
-            frames, variable = count & 0x3f, bool(count & 0x80)
+            self.frames, variable = count & 0x3f, bool(count & 0x80)
             padding = self.padding() if count & 0x40 else 0
-        self.samples = frames * frame_samples(toc)
-        refuse(15, frames == 0 or self.samples > 5760)
-        sizes = [self.coded() for _ in range(frames - 1)] if variable else []
+        self.samples = self.frames * frame_samples(toc)
+        refuse(15, self.frames == 0 or self.samples > 5760)
+        sizes = [self.coded() for _ in range(self.frames - 1)] if variable else []
         if delimited:
             size = self.coded()
         else:
             room = len(data) - self.at - padding - sum(sizes)
-            refuse(15, not variable and room % frames)
-            size = room if variable else room // frames
+            refuse(15, not variable and room % self.frames)
+            size = room if variable else room // self.frames
             refuse(15, not 0 <= size <= 1275)
-        self.end = self.at + padding + sum(sizes) + (size if variable else size * frames)
+        self.end = self.at + padding + sum(sizes) + (size if variable else size * self.frames)
         refuse(15, self.end > len(data))
 
     def byte(self):
@@ -72,15 +72,16 @@ class Packet:
         return total + value
 
 
-def packet_samples(data, streams):
-    """Samples of an audio packet of some streams; all but the last are self-delimited."""
-    lengths = set()
+def read_packet(data, streams):
+    """Samples of an audio packet of some streams, and frames of its first Opus packet; all but the last are
+    self-delimited."""
+    packets = []
     for left in reversed(range(streams)):
-        packet = Packet(data, left > 0)
-        lengths.add(packet.samples)
-        data = data[packet.end:]
-    refuse(16, len(lengths) > 1)
-    return lengths.pop()
+        packets.append(Packet(data, left > 0))
+        data = data[packets[-1].end:]
+    first = packets[0]
+    refuse(16, any(packet.samples != first.samples for packet in packets))
+    return first.samples, first.frames
 
 
 def read_head(packet):

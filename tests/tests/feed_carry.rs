@@ -69,7 +69,7 @@ fn held_bytes_that_the_caller_changed_are_what_the_packet_is_read_from() {
     illegal.put_in_carry(0, &[0x0b, 0x00]);
     assert_eq!(feed(&mut illegal, &end), Err(15));
     feeder.put_in_carry(0, &[0x18]);
-    assert_eq!(feed(&mut feeder, &end), Ok(vec![(5_760, 2_880, 2_880)]));
+    assert_eq!(feed(&mut feeder, &end), Ok(vec![(5_760, 2_880, 2_880, 1)]));
 }
 
 /// A reader that holds the 255 bytes of a packet of 960 samples so far.
@@ -93,7 +93,7 @@ fn comments_lie_in_the_carry_buffer_and_no_other_whole_packet_does() {
     assert_carry(&feeder, &[NO_TAGS]);
     assert_eq!(
         feed(&mut feeder, &page(0, 960, 2, &[SOUND])),
-        Ok(vec![(960, 960, 960)])
+        Ok(vec![(960, 960, 960, 1)])
     );
     assert_carry(&feeder, &[NO_TAGS, &after]);
 }
@@ -118,7 +118,7 @@ fn a_page_that_ends_one_packet_and_begins_another_writes_both() {
     let mut feeder = holding();
     let after = feeder.carry()[258..].to_vec();
     let next = page(CONTINUED, 960, 3, &[&[1, 2, 3], &[4; 255]]);
-    assert_eq!(feed(&mut feeder, &next), Ok(vec![(960, 960, 960)]));
+    assert_eq!(feed(&mut feeder, &next), Ok(vec![(960, 960, 960, 1)]));
     assert_carry(&feeder, &[&[4; 255], &[1, 2, 3], &after]);
 }
 
@@ -141,7 +141,7 @@ fn a_late_refusal_leaves_the_end_of_the_held_packet_and_not_the_next_start() {
         };
         assert_carry(&feeder, &[&[0x08; 255], appended, &before[258..]]);
         let right = page(CONTINUED, 960, 3, &[&[7]]);
-        assert_eq!(feed(&mut feeder, &right), Ok(vec![(960, 960, 960)]));
+        assert_eq!(feed(&mut feeder, &right), Ok(vec![(960, 960, 960, 1)]));
     }
 }
 
@@ -156,6 +156,6 @@ fn a_dropped_packet_is_never_in_the_carry_buffer() {
     let wrong = page(CONTINUED, 960, 300, &[&[9; 5], &[]]);
     assert_eq!(feed(&mut feeder, &wrong), Err(15));
     let end = page(CONTINUED, 960, 300, &[&[9; 5], SOUND]);
-    assert_eq!(feed(&mut feeder, &end), Ok(vec![(960, 960, 960)]));
+    assert_eq!(feed(&mut feeder, &end), Ok(vec![(960, 960, 960, 1)]));
     assert_carry(&feeder, &[&before]);
 }

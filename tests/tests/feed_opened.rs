@@ -76,14 +76,20 @@ fn check_full(head: &Head, stream: &[Accepted], packets: &[Vec<Packet>]) {
     let mut count = Count::new(head.pre_skip);
     let mut kept = 0;
     for (accepted, packets) in stream.iter().zip(packets) {
-        let lengths: Vec<u64> = packets
+        let read = |packet: &Packet| opus::read(&packet.bytes, head.streams);
+        let told: Vec<(u64, u64)> = packets
             .iter()
-            .map(|packet| opus::read(&packet.bytes, head.streams).expect("a legal packet"))
+            .map(|packet| read(packet).expect("a legal packet"))
+            .map(|contents| (contents.samples, contents.frames))
             .collect();
-        let listed: Vec<u64> = accepted.listed.iter().map(|entry| entry.length).collect();
-        assert_eq!(listed, lengths);
+        let entries = accepted.listed.iter();
+        let listed: Vec<(u64, u64)> = entries.map(|e| (e.length, e.frames)).collect();
+        assert_eq!(listed, told);
         if !packets.is_empty() {
-            count.add(&accepted.page, lengths.iter().sum());
+            count.add(
+                &accepted.page,
+                told.iter().map(|(samples, _)| samples).sum(),
+            );
             kept += accepted
                 .listed
                 .iter()
@@ -130,9 +136,12 @@ fn check_opened(
     answers
 }
 
-/// The end stamps and the lengths.
-fn stamps(entries: &[Entry]) -> Vec<(u64, u64)> {
-    entries.iter().map(|e| (e.end, e.length)).collect()
+/// The end stamps, the lengths and the frames.
+fn stamps(entries: &[Entry]) -> Vec<(u64, u64, u64)> {
+    entries
+        .iter()
+        .map(|e| (e.end, e.length, e.frames))
+        .collect()
 }
 
 /// Feeds pages that the reader refuses.
@@ -172,5 +181,5 @@ fn readers_opened_at_every_page_list_what_the_full_reader_listed() {
         LEAST_OPENED,
         &[NO_POSITION],
     );
-    versions.finish("recordings opened", 0, LEAST_OF_EACH_VERSION);
+    versions.finish("recordings opened, by version", 0, LEAST_OF_EACH_VERSION);
 }

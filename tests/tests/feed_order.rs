@@ -54,8 +54,9 @@ impl Draft {
 /// or the one that comes later in a list and earlier in the order hides the other.
 type Fault = (u32, fn(&mut Draft));
 
-const ON_ANY: [Fault; 8] = [
+const ON_ANY: [Fault; 9] = [
     (1, |draft| draft.room.lists[1] = 254),
+    (1, |draft| draft.room.lists[3] = 254),
     (2, |draft| draft.ended = true),
     (4, |draft| draft.damage = |bytes| bytes[CHECKSUM.start] ^= 1),
     (3, |draft| draft.damage = |bytes| bytes.push(0)),

@@ -11,11 +11,12 @@ use embulgri_tests::random::{times, Random};
 use embulgri_tests::reader::{Phase, Position, Reader, Unfinished};
 use embulgri_tests::recording::{recording, Recording, Written};
 use embulgri_tests::tags::LONGEST;
-use embulgri_tests::tally::{Aims, Moves, Tally};
+use embulgri_tests::tally::{Aims, Frames, Moves, Tally};
 
 const RECORDINGS: usize = 32_000;
 const LEAST_FEEDINGS: usize = 200_000;
 const LEAST_MOVED: usize = 1_000;
+const LEAST_OF_EACH_COUNT: usize = 100;
 
 /// A run of feedings to one reader after the other, on one memory.
 struct Run {
@@ -24,6 +25,7 @@ struct Run {
     tally: Tally,
     aims: Aims,
     moves: Moves,
+    frames: Frames,
     recording: usize,
 }
 
@@ -35,6 +37,7 @@ impl Run {
             tally: Tally::default(),
             aims: Aims::default(),
             moves: Moves::default(),
+            frames: Frames::default(),
             recording: 0,
         }
     }
@@ -87,6 +90,9 @@ impl Run {
         let before = self.feeder.totals();
         let name = format!("recording {}: {name}", self.recording);
         let told = self.feeder.feed(bytes, room, name);
+        for entry in told.iter().flat_map(|listing| &listing.entries) {
+            self.frames.add(entry.frames);
+        }
         let answer = told.err().unwrap_or(0);
         self.tally.add(answer);
         self.moves.add(before, self.feeder.totals());
@@ -151,6 +157,8 @@ fn feeding_gives_the_number_the_reader_and_the_lists_that_the_rules_say() {
     }
     run.tally.finish("pages fed", LEAST_FEEDINGS, &REFUSALS);
     run.moves.finish("totals of the readers", [LEAST_MOVED, 0]);
+    run.frames
+        .finish("packets listed, by frames", 1, LEAST_OF_EACH_COUNT);
     for ways in WAYS {
         run.aims.finish(ways, least);
     }

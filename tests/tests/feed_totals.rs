@@ -1,15 +1,12 @@
 //! The totals of a reader worked out by hand: kept, skipped, trimmed and hole. That they are right
 //! after every feeding of the random runs too is held in `feed_calls`.
 
-use embulgri_tests::by_hand::{feed, full, head_of, opened, page, NO_TAGS, SOUND};
+use embulgri_tests::by_hand::{feed, full, head_of, of_streams, opened, page, NO_TAGS, SOUND};
 use embulgri_tests::feed_calls::{Feeder, Room, ENOUGH};
 use embulgri_tests::feeding::{CONTINUED, FIRST, LAST, NO_GRANULE, REFUSALS};
 use embulgri_tests::head;
 use embulgri_tests::ogg::{self, CHECKSUM};
 use embulgri_tests::reader::{Totals, TOTALS};
-
-/// The place of the stream count in a reader's numbers.
-const STREAMS: usize = 7;
 
 /// The reader with other totals, and with numbers in the places that nothing looks at.
 fn with_totals(mut feeder: Feeder, totals: Totals) -> Feeder {
@@ -182,9 +179,7 @@ fn of_header_pages() -> [Refused; 4] {
 }
 
 fn of_audio_pages() -> [Refused; 10] {
-    let mut numbers = full(312).numbers();
-    numbers[STREAMS] = 2;
-    let two_streams = Feeder::of(numbers);
+    let two_streams = of_streams(full(312), 2);
     let audio = |flags, granule, sequence, packet: &[u8]| {
         let bytes = page(flags, granule, sequence, &[packet]);
         (full(312), bytes)

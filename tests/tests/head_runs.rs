@@ -51,7 +51,7 @@ fn reading_gives_the_number_the_fields_and_the_mapping_that_the_rules_say() {
         tally.add(answer);
     }
     tally.finish("headers read", LEAST_CASES, &[BAD_HEAD, BAD_MAPPING]);
-    versions.finish("headers accepted", 0, LEAST_OF_EACH_VERSION);
+    versions.finish("headers accepted, by version", 0, LEAST_OF_EACH_VERSION);
 }
 
 #[test]
@@ -113,7 +113,11 @@ fn a_header_of_any_version_is_written_as_version_1_and_read_back() {
         assert_same_bytes(&again, &same, format_args!("header {number}"));
         assert_eq!(found_head(&again), found);
     }
-    versions.finish("headers written as version 1", 0, LEAST_OF_EACH_VERSION);
+    versions.finish(
+        "headers written again, by version",
+        0,
+        LEAST_OF_EACH_VERSION,
+    );
 }
 
 #[test]
@@ -130,7 +134,7 @@ fn headers_that_differ_in_the_bytes_after_the_fields_are_read_alike() {
         versions.add(head.version);
     }
     versions.finish(
-        "headers with other bytes after the fields",
+        "headers with other bytes after the fields, by version",
         2,
         LEAST_OF_EACH_VERSION,
     );

@@ -3,7 +3,7 @@
 
 use embulgri_tests::calls::check_packet;
 use embulgri_tests::inputs::shifted;
-use embulgri_tests::opus::{BAD_STREAMS, ILLEGAL_PACKET, MIXED_LENGTHS};
+use embulgri_tests::opus::{Contents, BAD_STREAMS, ILLEGAL_PACKET, MIXED_LENGTHS};
 use embulgri_tests::packet_damages::{DAMAGES, UNDAMAGED};
 use embulgri_tests::packet_inputs::{audio, audio_of};
 use embulgri_tests::packet_set::legal_set;
@@ -28,15 +28,17 @@ const BAD_NUMBERS: [u64; 10] = [
 ];
 
 /// The number that goes with what the rules tell.
-fn answer_of(told: Result<u64, u32>) -> u32 {
+fn answer_of(told: Result<Contents, u32>) -> u32 {
     told.err().unwrap_or(0)
 }
 
 #[test]
 fn packets_cut_short_at_every_place_are_read_as_the_rules_say() {
     let mut tally = Tally::default();
-    for (bytes, streams) in legal_set(&mut Random::of_run(21)) {
-        assert_eq!(check_packet(&bytes, streams, "whole"), Ok(960));
+    for audio in legal_set(&mut Random::of_run(21)) {
+        let (bytes, streams) = (audio.bytes(), audio.streams);
+        assert_eq!(audio.contents.samples, 960);
+        assert_eq!(check_packet(&bytes, streams, "whole"), Ok(audio.contents));
         for length in 0..bytes.len() {
             // What was cut off lies after the bytes that are lent.
             tally.add(answer_of(check_packet(&bytes[..length], streams, "cut")));
@@ -48,7 +50,8 @@ fn packets_cut_short_at_every_place_are_read_as_the_rules_say() {
 #[test]
 fn packets_with_any_one_byte_changed_are_read_as_the_rules_say() {
     let mut tally = Tally::default();
-    for (mut bytes, streams) in legal_set(&mut Random::of_run(22)) {
+    for audio in legal_set(&mut Random::of_run(22)) {
+        let (mut bytes, streams) = (audio.bytes(), audio.streams);
         for place in 0..bytes.len() {
             let right = bytes[place];
             for other in (0..=255).filter(|&byte| byte != right) {
@@ -70,7 +73,7 @@ fn every_number_of_streams_is_read_and_one_more_or_fewer_as_the_rules_say() {
             let audio = audio_of(&mut random, streams);
             let bytes = audio.bytes();
             let answer = check_packet(&bytes, audio.streams, "the right number");
-            assert_eq!(answer, Ok(audio.samples), "{streams} streams");
+            assert_eq!(answer, Ok(audio.contents), "{streams} streams");
             for told in [audio.streams - 1, audio.streams + 1] {
                 let answer = check_packet(&bytes, told, "another number");
                 assert_eq!(answer == Err(BAD_STREAMS), told == 0 || told == 256);
@@ -93,7 +96,7 @@ fn other_numbers_of_streams_are_refused_whatever_the_bytes() {
 }
 
 #[test]
-fn reading_gives_the_number_and_the_samples_that_the_rules_say() {
+fn reading_gives_the_number_and_the_contents_that_the_rules_say() {
     let mut random = Random::of_run(25);
     let mut tally = Tally::default();
     for number in 0..CASES {

@@ -34,7 +34,7 @@ use Rattle.tags_reader.specs.Right.{rightTags, isTags}
 use Rattle.packet_toc.specs.Toc.{configSamples, frameSamples}
 use Rattle.packet_frames.specs.Frames.{coded, codedTimes, paddingFrom}
 use Rattle.packet_frames.specs.Packet.{countedShape, shapeOf, parse}
-use Rattle.packet_reader.specs.Streams.{lengthsOf as packetLengths, allAre}
+use Rattle.packet_reader.specs.Streams.{measuredOf, allAre}
 use Rattle.granule.specs.declared.Position.{Position}
 use Rattle.granule.specs.declared.Position.the-variants.{Unset, Joined, At}
 use Rattle.granule.specs.Judging.{granuleWrong, from}
@@ -144,7 +144,7 @@ pages = record {
 
 -- of 480 samples
 abbrev pub stamp : ℕ → Stamp
-stamp end = record { end = end; samples = 480 }
+stamp end = record { end = end; samples = 480; frames = 1 }
 
 -- ---- the first reader's states
 
@@ -190,7 +190,7 @@ pub record Steps : Type 0 where
   pub dropped : Step q1 (written holePage) s5 []
 
 pub steps : Steps
-unfolding firstOf expecting seen join whole rest cutFrom unfinishedFrom wrongFlags continued last longFrom anyLong endedFrom afterFirst pageShape shapeFrom granuleWrong readings begins isTags isLaidOut fitsAt allFit textsFrom placeAfter tagsOf rightTags rightComments allRight occurrences utf8 utf8From packetChecks audioPackets timeChecks measuresOf nextOn stampsOn startOn from stamps samplesOf total packetLengths parse shapeOf allAre frameSamples configSamples coded codedTimes countedShape paddingFrom isHead fieldsOf number value streamsOf coupledOf indicesOf places rightLength rightMapping allowedChannels rightStreams rightIndices
+unfolding firstOf expecting seen join whole rest cutFrom unfinishedFrom wrongFlags continued last longFrom anyLong endedFrom afterFirst pageShape shapeFrom granuleWrong readings begins isTags isLaidOut fitsAt allFit textsFrom placeAfter tagsOf rightTags rightComments allRight occurrences utf8 utf8From packetChecks audioPackets timeChecks measuresOf nextOn stampsOn startOn from stamps samplesOf total measuredOf parse shapeOf allAre frameSamples configSamples coded codedTimes countedShape paddingFrom isHead fieldsOf number value streamsOf coupledOf indicesOf places rightLength rightMapping allowedChannels rightStreams rightIndices
 steps = record {
   head = step fresh s1 [] (written headPage) headPage (pages .head) refl refl refl refl;
   tags = step s1 s2 [] (written tagsPage) tagsPage (pages .tags) refl refl refl refl;

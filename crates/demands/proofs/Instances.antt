@@ -21,7 +21,7 @@ use Rattle.page_writer.specs.Writing.{writeTold}
 use Rattle.packet_toc.specs.Toc.{configSamples, frameSamples}
 use Rattle.packet_frames.specs.Frames.{coded, codedTimes, paddingFrom}
 use Rattle.packet_frames.specs.Packet.{countedShape, shapeOf, parse}
-use Rattle.packet_reader.specs.Streams.{lengthsOf as packetLengths, allAre}
+use Rattle.packet_reader.specs.Streams.{measuredOf, allAre}
 use Rattle.granule.specs.declared.Position.the-variants.{At}
 use Rattle.granule.specs.Judging.{granuleWrong, from}
 use Rattle.granule.specs.Samples.{tally, keptOf}
@@ -130,7 +130,7 @@ listed-by r c b p room k e =
     ∙ ap (λ (q : Page). entriesOn R (r .tally .skip) (expecting (view (r .core) c) q) q (seen (expecting (view (r .core) c) q) q)) (k .page)
 
 pub meets-unskipped : MeetsUnskipped
-unfolding entriesOn entries keptOf tally expecting seen join whole rest cutFrom unfinishedFrom last audioPackets measuresOf startOn from readings samplesOf total packetLengths parse shapeOf allAre frameSamples configSamples coded codedTimes countedShape paddingFrom
+unfolding entriesOn entries keptOf tally expecting seen join whole rest cutFrom unfinishedFrom last audioPackets measuresOf startOn from readings samplesOf total measuredOf parse shapeOf allAre frameSamples configSamples coded codedTimes countedShape paddingFrom
 meets-unskipped = record {
   nothing = record { skip = refl; past = refl };
   accepted = taken ending room (written lastPage) room-enough (steps .end .passes);
@@ -147,11 +147,11 @@ ahead-view : view (ahead .core) sevens ≡ at Audio (held 510 (replicate 510 0))
 ahead-view = ap (λ (h : Bytes). at Audio (held 510 h) (At 5000) 4) held-sevens
 
 ahead-refused : verdict R (at Audio (held 510 (replicate 510 0)) (At 5000) 4) (written holePage) ≡ some GranuleTooSmall
-unfolding firstOf expecting seen join whole rest cutFrom unfinishedFrom wrongFlags continued last longFrom anyLong endedFrom afterFirst pageShape shapeFrom granuleWrong readings packetChecks audioPackets timeChecks measuresOf samplesOf total packetLengths parse shapeOf allAre frameSamples configSamples coded codedTimes countedShape paddingFrom
+unfolding firstOf expecting seen join whole rest cutFrom unfinishedFrom wrongFlags continued last longFrom anyLong endedFrom afterFirst pageShape shapeFrom granuleWrong readings packetChecks audioPackets timeChecks measuresOf samplesOf total measuredOf parse shapeOf allAre frameSamples configSamples coded codedTimes countedShape paddingFrom
 ahead-refused = verdict-by (at Audio (held 510 (replicate 510 0)) (At 5000) 4) (written holePage) holePage (pages .hole) refl
 
 full-step : Step (at Audio nothing (At 300) 2) (written firstPage) s3 (stamp 1000 ∷ [])
-unfolding firstOf expecting seen join whole rest cutFrom unfinishedFrom wrongFlags continued last longFrom anyLong endedFrom afterFirst pageShape shapeFrom granuleWrong readings packetChecks audioPackets timeChecks measuresOf nextOn stampsOn startOn from stamps samplesOf total packetLengths parse shapeOf allAre frameSamples configSamples coded codedTimes countedShape paddingFrom
+unfolding firstOf expecting seen join whole rest cutFrom unfinishedFrom wrongFlags continued last longFrom anyLong endedFrom afterFirst pageShape shapeFrom granuleWrong readings packetChecks audioPackets timeChecks measuresOf nextOn stampsOn startOn from stamps samplesOf total measuredOf parse shapeOf allAre frameSamples configSamples coded codedTimes countedShape paddingFrom
 full-step = step (at Audio nothing (At 300) 2) s3 (stamp 1000 ∷ []) (written firstPage) firstPage (pages .first) refl refl refl refl
 
 full-taken : (t : Taken) × (feed R full (lentWith room) (written firstPage) .told ≡ gives t)

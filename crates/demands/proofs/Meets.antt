@@ -19,7 +19,7 @@ use Rattle.head_reader.specs.Fields.{streamsOf, headOf as fieldsOf}
 use Rattle.packet_toc.specs.Toc.{configSamples, frameSamples}
 use Rattle.packet_frames.specs.Frames.{coded, codedTimes, paddingFrom}
 use Rattle.packet_frames.specs.Packet.{countedShape, shapeOf, parse}
-use Rattle.packet_reader.specs.Streams.{lengthsOf as packetLengths}
+use Rattle.packet_reader.specs.Streams.{measuredOf}
 use Rattle.granule.specs.Samples.{tally}
 use Rattle.granule.specs.Judging.{from}
 use Rattle.stream.specs.Page.{Page, pageOf, last, ends, completes}
@@ -131,7 +131,7 @@ mark-on n h b p bs k =
     (marksFrom R n (leftFrom h (segmentsOf q)) bs)) (k .page)
 
 audio-marks-are : marksFrom R 1 [] audioBytes ≡ audioMarks
-unfolding marksFrom segmentsOf segments packetsFrom leftFrom completes ends last readings packetLengths parse shapeOf frameSamples configSamples coded codedTimes countedShape paddingFrom samplesOf total
+unfolding marksFrom segmentsOf segments packetsFrom leftFrom completes ends last readings measuredOf parse shapeOf frameSamples configSamples coded codedTimes countedShape paddingFrom samplesOf total
 audio-marks-are =
     mark-on 1 [] (written firstPage) firstPage (drop 1 audioBytes) (pages .first)
     ∙ ap (λ (ms : List Mark). take 1 audioMarks ++ ms)

@@ -12,6 +12,7 @@ use Rattle.refusal.specs.Checks.{firstOf, orElse}
 use Rattle.refusal.specs.declared.Refusal.the-variants.{IllegalPacket, BelowPreSkip, GranuleTooSmall}
 use Rattle.refusal.specs.Numbers.{numberOf}
 use Rattle.refusal.specs.Told.{Told, gives, refuses}
+use Rattle.packet_reader.specs.declared.Contents.{Contents}
 use Rattle.packet_reader.specs.Streams.{readPacket}
 use Rattle.granule.specs.declared.Position.the-variants.{Unset}
 use Rattle.granule.specs.Judging.{judgeChecks}
@@ -36,8 +37,8 @@ pub record Case : Type 0 where
 
 -- ---- what the rules say
 
-abbrev samplesTold : Told ℕ → Outcome
-samplesTold (gives n) = samples n
+abbrev samplesTold : Told Contents → Outcome
+samplesTold (gives c) = samples (c .measure .samples)
 samplesTold (refuses n) = refused n
 
 -- the first refusal among marks, a mark being what feeding judges of a page where packets complete; others came before
@@ -68,7 +69,7 @@ abbrev some-pages : List Mark → Outcome → Case
 some-pages ps o = record { given = pages ps; outcome = o }
 
 abbrev page : ℕ → ℕ → Bool → Mark
-page g d last = record { granule = g; measures = record { samples = d } ∷ []; last = last }
+page g d last = record { granule = g; measures = record { samples = d; frames = 1 } ∷ []; last = last }
 
 abbrev pub cases : List Case
 cases =

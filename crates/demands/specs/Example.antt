@@ -20,7 +20,7 @@ use Rattle.stream.specs.Page.{Page}
 use Rattle.stream.specs.Readings.{Readings, readings}
 use Rattle.stream.specs.State.{isFirst}
 use Rattle.limits.specs.Limits.{packetMax, listMax}
-use Rattle.stream.specs.Lent.{Lent, isShort}
+use Rattle.stream.specs.Lent.{Lent, lentOf, isShort}
 use Rattle.stream.specs.Feed.{noTally, Reader, start, openPartWay, Taken, feed}
 use Rattle.stream.specs.Stream.{headOf, Mark, marks, initial, holes, keptCount, trimmedCount}
 use Rattle.stream.specs.Feedings.{Feeding, feedIn, readerAfter, HandedOn, stream, bytesOf, Marked, allOf, marked, RoomAtMarks}
@@ -77,7 +77,7 @@ pub record Planned : Type 0 where
   pub bytes : Bytes
 
 abbrev pub lentWith : Bytes → Lent
-lentWith c = record { carry = c; ends = replicate listMax 0; lengths = replicate listMax 0; kept = replicate listMax 0 }
+lentWith c = lentOf c (replicate listMax 0) (replicate listMax 0) (replicate listMax 0) (replicate listMax 0)
 
 abbrev pub feeding : Planned → Bytes → Feeding
 feeding p c = record { bytes = p .bytes; lent = lentWith (pick (p .short) [] c) }
@@ -132,7 +132,7 @@ unfoldable pub M : List Marked
 M = follow R (openedIn R F) room secondPlan
 
 abbrev mark : ℕ → Bool → Mark
-mark g last = record { granule = g; measures = record { samples = 480 } ∷ []; last = last }
+mark g last = record { granule = g; measures = record { samples = 480; frames = 1 } ∷ []; last = last }
 
 abbrev pub audioMarks : List Mark
 audioMarks = mark 1000 false ∷ mark 3000 false ∷ mark 3100 true ∷ []
@@ -145,7 +145,7 @@ pub record Meets : Type 0 where
   pub followed : Followed R F 1 M
   pub began : beganBefore R F 1 ≡ true
   pub position : hasPosition (drop 1 (audioIn R F)) ≡ true
-  pub told : toldAtMarks R (openedIn R F) M ≡ gives [] ∷ gives [] ∷ gives (record { end = 3480; samples = 480 } ∷ []) ∷ []
+  pub told : toldAtMarks R (openedIn R F) M ≡ gives [] ∷ gives [] ∷ gives (record { end = 3480; samples = 480; frames = 1 } ∷ []) ∷ []
   pub marks : marks R (bytesOf (stream R start F)) ≡ audioMarks
   pub begins : initial audioMarks ≡ 520
   pub hole : holes audioMarks ≡ 1520

@@ -18,6 +18,7 @@ use Rattle.page_layout.specs.declared.PageHeader.{PageHeader}
 use Rattle.page_layout.specs.Page.{lacingOf, bodyOf}
 use Rattle.page_reader.specs.Reading.{readPage}
 use Rattle.page_writer.specs.Writing.{writeTold, writeOut}
+use Rattle.packet_reader.specs.declared.Contents.{Contents}
 use Rattle.packet_reader.specs.Streams.{readPacket}
 use Rattle.head_fields.specs.declared.Head.{Head}
 use Rattle.head_numbers.specs.Numbers.{headNumbers, fitting, headFrom}
@@ -59,9 +60,13 @@ PageOut h l b number out end old count = Wrote (writeTold h l b out) (writeOut h
 
 -- ---- packets
 
--- the samples of a packet of so many streams
-abbrev pub PacketIn : Bytes → ℕ → ℕ → ℕ → ℕ → Type 0
-PacketIn p streams number old end = Answered (readPacket p streams) number old end
+-- samples, frames, stereo and silent, the last two 0 or 1
+abbrev pub packetNumbers : Contents → List ℕ
+packetNumbers c = c .measure .samples ∷ c .measure .frames ∷ pick (c .stereo) 1 0 ∷ pick (c .silent) 1 0 ∷ []
+
+-- those of a packet of so many streams
+abbrev pub PacketIn : Bytes → ℕ → ℕ → List ℕ → List ℕ → Type 0
+PacketIn p streams number old end = Answered (retold packetNumbers (readPacket p streams)) number old end
 
 -- ---- identification headers
 

@@ -46,8 +46,8 @@ fn page_record(c: Counts) -> [u64; 6]
     [c.packets, c.samples, c.kept, c.skipped, c.trimmed, c.hole]
 }
 
-// Feeds one page. Into `state`: the next reader. Into `ends`, `lengths` and `kept`: the packets that complete on the page.
-// Into `out`: the page's own record, in the order of `page_record`. Returns 1 to 19, or 0; under 12 to 19 the carry buffer
+// Feeds one page. Into `state`: the next reader. Into `ends`, `lengths`, `kept` and `frames`: the packets that complete on the
+// page. Into `out`: the page's own record, in the order of `page_record`. Returns 1 to 19, or 0; under 12 to 19 the carry buffer
 // may change (RULES.md, 7; embulgri.h).
 // Example: after the headers of a stream with pre-skip 312, a page of three packets of 960 samples with granule position
 // 2880 stores 3, 2880, 2568, 312, 0, 0 into `out`.
@@ -59,13 +59,14 @@ pub extern "C" fn embulgri_feed(
     ends: &mut [u64],
     lengths: &mut [u64],
     kept: &mut [u64],
+    frames: &mut [u64],
     out: &mut [u64; 6],
 ) -> u32
     ensures { λ r. ⌜
-        FedIn (now (state .entry)) (now (page .entry)) (atEntry carry ends lengths kept) r
-        (now (state .exit)) (atExit carry ends lengths kept) (now (out .entry)) (now (out .exit)) ⌝ }
+        FedIn (now (state .entry)) (now (page .entry)) (atEntry carry ends lengths kept frames) r
+        (now (state .exit)) (atExit carry ends lengths kept frames) (now (out .entry)) (now (out .exit)) ⌝ }
 {
-    match reader::feed_state(state, page, carry, ends, lengths, kept) {
+    match reader::feed_state(state, page, carry, ends, lengths, kept, frames) {
         StateFed::Accepted(counts) => {
             *out = page_record(counts);
             0

@@ -4,12 +4,14 @@
 ghost use mathlib.Core.Path.{_≡_};
 ghost use Rattle.page_crc.specs.Crc.{crc};
 ghost use Rattle.tags_layout.specs.Finding.{toldPart};
-ghost use Rattle.embulgri.specs.Answers.{PageIn, PageOut, PacketIn, HeadIn, HeadLaid, TagsIn, PartIn, VendorIn};
+ghost use Rattle.octets.specs.Pick.{pick};
+ghost use Rattle.embulgri.specs.Answers.{PageIn, PageOut, packetNumbers, PacketIn, HeadIn, HeadLaid, TagsIn, PartIn, VendorIn};
 ghost use Rattle.embulgri.specs.Answers.{CommentIn, GainIn, TagsOut, ClockAfter};
 use head_reader::Verdict;
 use head_writer::HeadWritten;
 use old_clock::Added;
 use old_clock::Clock;
+use packet_reader::Contents;
 use packet_reader::PacketRead;
 use page_layout::PageHeader;
 use page_reader::PageRead;
@@ -95,16 +97,36 @@ pub extern "C" fn embulgri_page_write(
     }
 }
 
-// Reads one audio packet of so many streams. Into `samples`: its length in samples at 48 kHz. Returns 13, 15, 16 or 0
-// (RULES.md, 6; embulgri.h). Example: the one byte 0xfc and 1 stream store 960.
+fn bit(b: bool) -> u64
+    ensures { λ r. ⌜ r ≡ pick b 1 0 ⌝ }
+{
+    if b { 1 } else { 0 }
+}
+
+// What a packet is made of, as numbers.
+fn packet_numbers(c: Contents) -> [u64; 4]
+    ensures { λ r. ⌜ r ≡ packetNumbers c ⌝ }
+{
+    let m = c.measure;
+    [
+        m.samples as u64,
+        m.frames as u64,
+        bit(c.stereo),
+        bit(c.silent),
+    ]
+}
+
+// Reads one audio packet of so many streams. Into `out`: its length in samples at 48 kHz, and of its first Opus packet the
+// number of frames, whether it is stereo, and whether every frame is empty. Returns 13, 15, 16 or 0 (RULES.md, 6; embulgri.h).
+// Example: the one byte 0xfc and 1 stream store 960, 1, 1, 1.
 #[no_mangle]
-pub extern "C" fn embulgri_packet_read(packet: &[u8], streams: u64, samples: &mut u64) -> u32
-    ensures { λ r. ⌜ PacketIn (now (packet .entry)) streams r (now (samples .entry)) (now (samples .exit)) ⌝ }
+pub extern "C" fn embulgri_packet_read(packet: &[u8], streams: u64, out: &mut [u64; 4]) -> u32
+    ensures { λ r. ⌜ PacketIn (now (packet .entry)) streams r (now (out .entry)) (now (out .exit)) ⌝ }
 {
     let read = packet_reader::read_packet(packet, streams);
     match read {
-        PacketRead::Samples(n) => {
-            *samples = n as u64;
+        PacketRead::Legal(contents) => {
+            *out = packet_numbers(contents);
             0
         }
         PacketRead::Refused(why) => refusal::number(why) as u32,

@@ -54,34 +54,36 @@ is-audio Audio e = refl
 is-audio Opened e = absurd (false≢true e)
 is-audio Over e = absurd (false≢true e)
 
-module _ (k : Core) (t : Tally) (h : PageHeader) (l body carry ends lengths kept : List ℕ) where
-  abbrev lent : Lent
-  lent = lentOf carry ends lengths kept
-
+module _ (k : Core) (t : Tally) (h : PageHeader) (l body : Bytes) (lent : Lent) where
   abbrev page : Page
   page = pageWith h l body
 
   -- the test as the code makes it
   abbrev pub tested : Bool
-  tested = isAudio (k .phase) && (not (shortBy (length carry) (length ends) (length lengths) (length kept)) && isBody l body)
+  tested =
+      isAudio (k .phase)
+      && (not (shortBy (length (lent .carry)) (length (lent .ends)) (length (lent .lengths)) (length (lent .kept)) (length (lent .frames)))
+      && isBody l body)
 
-  pub fitting : tested ≡ true → Fitting k l body carry ends lengths kept
+  pub fitting : tested ≡ true → Fitting k l body lent
   unfolding isBody
   fitting e =
       let a = both (isAudio (k .phase)) _ e in
       let b = both _ (isBody l body) (a .1) in
       let c = both (leb (length l) 255) (eqb (total l) (length body)) (b .1) in
       let short = not-true _ (b .0) in
-      let lists = or-right (ltb (length carry) packetMax) _ short in
-      let later = or-right (ltb (length ends) listMax) _ lists in
+      let lists = or-right (ltb (length (lent .carry)) packetMax) _ short in
+      let later = or-right (ltb (length (lent .ends)) listMax) _ lists in
+      let last = or-right (ltb (length (lent .lengths)) listMax) _ later in
       record {
         audio = is-audio (k .phase) (a .0);
         few = leb-true (length l) 255 (c .0);
         sums = eqb-true (total l) (length body) (c .1);
-        carry = ltb-false (length carry) packetMax (or-left (ltb (length carry) packetMax) _ short);
-        ends = ltb-false (length ends) listMax (or-left (ltb (length ends) listMax) _ lists);
-        lengths = ltb-false (length lengths) listMax (or-left (ltb (length lengths) listMax) _ later);
-        kept = ltb-false (length kept) listMax (or-right (ltb (length lengths) listMax) _ later);
+        carry = ltb-false (length (lent .carry)) packetMax (or-left (ltb (length (lent .carry)) packetMax) _ short);
+        ends = ltb-false (length (lent .ends)) listMax (or-left (ltb (length (lent .ends)) listMax) _ lists);
+        lengths = ltb-false (length (lent .lengths)) listMax (or-left (ltb (length (lent .lengths)) listMax) _ later);
+        kept = ltb-false (length (lent .kept)) listMax (or-left (ltb (length (lent .kept)) listMax) _ last);
+        frames = ltb-false (length (lent .frames)) listMax (or-right (ltb (length (lent .kept)) listMax) _ last);
       }
 
   pub not-due : (R : Readings) → tested ≡ false → FeedsAudio R (readerOf k t) page lent NotAudio lent
@@ -95,9 +97,9 @@ module _ (k : Core) (t : Tally) (h : PageHeader) (l body carry ends lengths kept
 
 -- ---- 9 and 11
 
-module _ (R : Readings) (k : Core) (t : Tally) (h : PageHeader) (l body carry ends lengths kept : List ℕ) (audio : k .phase ≡ Audio) where
-  abbrev all : Lent
-  all = lentOf carry ends lengths kept
+module _ (R : Readings) (k : Core) (t : Tally) (h : PageHeader) (l body : Bytes) (all : Lent) (audio : k .phase ≡ Audio) where
+  abbrev carry : Bytes
+  carry = all .carry
 
   abbrev whole : Page
   whole = pageWith h l body
@@ -126,7 +128,7 @@ module _ (R : Readings) (k : Core) (t : Tally) (h : PageHeader) (l body carry en
       subst (λ (i : Core). FedIs (audioOn R (readerOf i t) all whole) r after) (in-audio k audio)
       (subst (λ (w : Option Refusal). FedIs (fedBy w R (readerOf (inAudio k) t) all state whole sight) r after) (sym same) o)
 
-  pub too-long : TooLong ≡ scanBy (k .pending) l → FedIs (audioOn R (readerOf k t) all whole) (toldPage (Refused PacketTooLong)) (lentOf carry ends lengths kept)
+  pub too-long : TooLong ≡ scanBy (k .pending) l → FedIs (audioOn R (readerOf k t) all whole) (toldPage (Refused PacketTooLong)) all
   unfolding carryAfter
   too-long e =
       let is : long ≡ true = scan-long (k .pending) l carry e in
@@ -143,7 +145,7 @@ module _ (R : Readings) (k : Core) (t : Tally) (h : PageHeader) (l body carry en
         verdict ∙ ap (λ (b : Bool). pick b (some PacketTooLong) (pick (granuleWrong granuleMax (firstFrom 0 l .ends) (h .granule)) (some WrongGranule) late)) (passed .0)
 
     pub wrong-granule : granuleWrong granuleMax (firstFrom 0 l .ends) (h .granule) ≡ true
-        → FedIs (audioOn R (readerOf k t) all whole) (toldPage (Refused WrongGranule)) (lentOf carry ends lengths kept)
+        → FedIs (audioOn R (readerOf k t) all whole) (toldPage (Refused WrongGranule)) all
     unfolding carryAfter
     wrong-granule w =
         audio-as (some WrongGranule) (not-long ∙ ap (λ (b : Bool). pick b (some WrongGranule) late) w)
@@ -175,16 +177,16 @@ fresh-fits Nothing l = omega (arith, tail-le l 0)
 fresh-fits (Held n) l = omega arith
 fresh-fits Dropped l = omega arith
 
-module _ (k : Core) (h : PageHeader) (l body carry ends lengths kept : List ℕ) (f : Fitting k l body carry ends lengths kept) (rest : ℕ)
+module _ (k : Core) (h : PageHeader) (l body : Bytes) (lent : Lent) (f : Fitting k l body lent) (rest : ℕ)
     (e : Rest rest ≡ scanBy (k .pending) l) where
-  shorts : (isLong (carriedIn (k .pending) carry) l ≡ false) × (rest ≡ tailBy (k .pending) l)
-  shorts = scan-short (k .pending) l carry rest e
+  shorts : (isLong (carriedIn (k .pending) (lent .carry)) l ≡ false) × (rest ≡ tailBy (k .pending) l)
+  shorts = scan-short (k .pending) l (lent .carry) rest e
 
   pub any-completes : firstFrom 0 l .ends ≡ true → granuleWrong granuleMax (firstFrom 0 l .ends) (h .granule) ≡ false
-      → AnyCompletes k h (firstFrom 0 l) rest l body carry ends lengths kept
+      → AnyCompletes k h (firstFrom 0 l) rest l body lent
   any-completes done g =
       let s : Ended 0 l (firstFrom 0 l) = ways 0 l .0 done in
-      let tail : rest ≡ unfinishedFrom 0 l = shorts .1 ∙ tail-here l body carry (f .sums) s (k .pending) in
+      let tail : rest ≡ unfinishedFrom 0 l = shorts .1 ∙ tail-here l body (lent .carry) (f .sums) s (k .pending) in
       record {
         fitting = f;
         scanned = record { piece = refl; short = shorts .0; tail = shorts .1 };
@@ -196,7 +198,7 @@ module _ (k : Core) (h : PageHeader) (l body carry ends lengths kept : List ℕ)
           within = s .within;
           sums = omega (arith, f .sums);
           rest = omega (arith, f .sums, s .sums);
-          held = omega (arith, f .carry, held-short (k .pending) l carry s (shorts .0));
+          held = omega (arith, f .carry, held-short (k .pending) l (lent .carry) s (shorts .0));
         };
         bytes = omega (arith, f .sums, s .sums);
         left = omega (arith, tail, tail-le l 0, f .sums);
@@ -204,7 +206,7 @@ module _ (k : Core) (h : PageHeader) (l body carry ends lengths kept : List ℕ)
       }
 
   module _ (undone : firstFrom 0 l .ends ≡ false) where
-    pub none-completes : NoneCompletes k (firstFrom 0 l .bytes) rest l body carry ends lengths kept
+    pub none-completes : NoneCompletes k (firstFrom 0 l .bytes) rest l body lent
     none-completes = record { fitting = f; piece = refl; tail = shorts .1; undone = undone }
 
     pub piece-fits : (firstFrom 0 l .bytes ≤ length body) × (freshBy (k .pending) rest ≤ length body)

@@ -1,7 +1,7 @@
 -- The two ways of a page past 11, from what the private functions promise. Assumes nothing.
 use Prim.Native.Nat.{ℕ, _≤_}
 use mathlib.Core.Path.{_≡_, sym, ap, ap₂, subst, _∙_}
-use mathlib.Core.List.{List}
+use mathlib.Core.List.{List, []}
 use lib.ListN.{length, take}
 use Rattle.octets.specs.Octets.{Bytes}
 use Rattle.refusal.specs.declared.Refusal.{Refusal}
@@ -17,10 +17,11 @@ use Rattle.stream.specs.declared.Tally.{Tally}
 use Rattle.stream.specs.declared.Counts.{Counts}
 use Rattle.stream.specs.Page.{wholeFrom, restFrom, whole, rest, pageWith}
 use Rattle.page_flags.specs.Flags.{isLastPage}
-use Rattle.stream.specs.Lent.{Lent, lentOf}
-use Rattle.stream.specs.Readings.{Measure, readings}
+use Rattle.stream.specs.Lent.{Lent, lentOf, withCarry}
+use Rattle.packet_reader.specs.declared.Measure.{Measure}
+use Rattle.stream.specs.Readings.{readings}
 use Rattle.stream.specs.State.{Carried}
-use Rattle.stream.specs.Packets.{Seen, join, seen}
+use Rattle.stream.specs.Packets.{Seen, join, seen, samplesOf}
 use Rattle.stream.specs.Feed.{carriedIn, view, entries, tallyAfter, firstPiece, appended, withRest, carryAfter, readerOf, noCounts, FedIs, Taken, toldPage}
 use Rattle.stream.specs.declared.PageFed.the-variants.{Accepted, Refused}
 use Rattle.feed_audio.specs.declared.packets.Piece.{Piece}
@@ -33,28 +34,28 @@ use Rattle.feed_audio.proofs.Feeding.{inAudio, in-audio, refused, accep
 use Rattle.feed_lacing.specs.Scan.{tailBy}
 
 -- what the place says of the trimmed samples
-pub place-trimmed : (k : Core) (h : PageHeader) {n d : ℕ} {w : Placed} {lens : List ℕ} {x : Told (List Measure)} → Times (Packets n d w) lens k h x
+pub place-trimmed : (k : Core) (h : PageHeader) {n d : ℕ} {w : Placed} {packed : List ℕ} {x : Told (List Measure)} → Times (Packets n d w) packed k h x
     → w .trimmed ≡ trimmedOf (isLastPage (h .flags)) (h .granule) (w .from) d
 unfolding placed
 place-trimmed k h {n} {d} {w} m = rw (m .runs .place)
 
-module _ (crc : Bytes → ℕ) (k : Core) (t : Tally) (h : PageHeader) (l body carry ends lengths kept : List ℕ) where
-  abbrev lent : Lent
-  lent = lentOf carry ends lengths kept
+module _ (crc : Bytes → ℕ) (k : Core) (t : Tally) (h : PageHeader) (l body : Bytes) (lent : Lent) where
+  abbrev carry : Bytes
+  carry = lent .carry
 
   abbrev carried : Carried
   carried = carriedIn (k .pending) carry
 
-  abbrev lateIn : Core → Seen → Told Taken → List ℕ → List ℕ → List ℕ → List ℕ → Type 0
-  lateIn q x r c e z w = FedIs (onPast11 (readings crc) (readerOf q t) lent (view q carry) (pageWith h l body) x) r (lentOf c e z w)
+  abbrev lateIn : Core → Seen → Told Taken → Lent → Type 0
+  lateIn q x r m = FedIs (onPast11 (readings crc) (readerOf q t) lent (view q carry) (pageWith h l body) x) r m
 
   -- from what is seen to the page, and to the state as it is
-  late-by : {r : Told Taken} {c e z w : List ℕ} (x : Seen) → k .phase ≡ Audio → join carried (wholeFrom 0 l body) (restFrom 0 l body) ≡ x
-      → lateIn (inAudio k) x r c e z w → FedIs (fedPast11 (readings crc) (readerOf k t) lent (pageWith h l body)) r (lentOf c e z w)
+  late-by : {r : Told Taken} {m : Lent} (x : Seen) → k .phase ≡ Audio → join carried (wholeFrom 0 l body) (restFrom 0 l body) ≡ x
+      → lateIn (inAudio k) x r m → FedIs (fedPast11 (readings crc) (readerOf k t) lent (pageWith h l body)) r m
   unfolding fedPast11 seen whole rest
-  late-by {r} {c} {e} {z} {w} x audio sees o =
-      subst (λ (q : Core). lateIn q (join (carriedIn (q .pending) carry) (wholeFrom 0 l body) (restFrom 0 l body)) r c e z w) (in-audio k audio)
-      (subst (λ (y : Seen). lateIn (inAudio k) y r c e z w) (sym sees) o)
+  late-by {r} {m} x audio sees o =
+      subst (λ (q : Core). lateIn q (join (carriedIn (q .pending) carry) (wholeFrom 0 l body) (restFrom 0 l body)) r m) (in-audio k audio)
+      (subst (λ (y : Seen). lateIn (inAudio k) y r m) (sym sees) o)
 
   -- ---- where a packet completes
 
@@ -67,7 +68,7 @@ module _ (crc : Bytes → ℕ) (k : Core) (t : Tally) (h : PageHeader) (l body c
   abbrev tail : ℕ
   tail = tailBy (k .pending) l
 
-  module _ {first : Piece} {left : ℕ} (s : AnyCompletes k h first left l body carry ends lengths kept) (few : k .streams ≤ 255)
+  module _ {first : Piece} {left : ℕ} (s : AnyCompletes k h first left l body lent) (few : k .streams ≤ 255)
       {now : List ℕ} (n : now ≡ appended Audio carried (take (first .bytes) body) carry) where
     splits : Ended 0 l (firstFrom 0 l)
     splits = ways 0 l .0 (s .done)
@@ -87,39 +88,40 @@ module _ (crc : Bytes → ℕ) (k : Core) (t : Tally) (h : PageHeader) (l body c
     appends : now ≡ appended Audio carried (firstPiece (wholeFrom 0 l body) (restFrom 0 l body)) carry
     appends = now-joined ∙ ap (λ (b : Bytes). appended Audio carried b carry) (sym (first-ended l body carry (s .fitting .sums) splits))
 
-    pub completing-refused : {lens : List ℕ} {why : Refusal}
-        → Times (Untimed why) lens k h (measured (countOf (k .streams)) (packetsBy (k .pending) (first .values) (first .bytes) l body now))
-        → FedIs (fedPast11 (readings crc) (readerOf k t) lent (pageWith h l body)) (toldPage (Refused why)) (lentOf now ends lengths kept)
+    pub completing-refused : {packed : List ℕ} {why : Refusal}
+        → Times (Untimed why) packed k h (measured (countOf (k .streams)) (packetsBy (k .pending) (first .values) (first .bytes) l body now))
+        → FedIs (fedPast11 (readings crc) (readerOf k t) lent (pageWith h l body)) (toldPage (Refused why)) (withCarry lent now)
     unfolding whole rest
-    completing-refused {lens} {why} m =
+    completing-refused {packed} {why} m =
         let told = m .tells ∙ ap (λ (ps : List Bytes). timedBy (measured (countOf (k .streams)) ps) k h) packets-are ∙ judges crc k h few packets in
         late-by (completing packets (restOf tail body)) (s .fitting .audio) sees
         (refused (readings crc) k t h l body lent packets (restOf tail body) why told appends)
 
-    pub completing-accepted : {lens : List ℕ} {i d skip : ℕ} {w : Placed} {es ss ks later : List ℕ} {after : Core} {tally : Tally} {counts : Counts}
-        → Times (Packets i d w) lens k h (measured (countOf (k .streams)) (packetsBy (k .pending) (first .values) (first .bytes) l body now))
-        → Lists skip es ss ks (t .skip) (take i lens) (entries (t .skip) (isLastPage (h .flags)) (h .granule) (w .from) (measuresIn (take i lens))) ends lengths kept
+    pub completing-accepted : {packed : List ℕ} {i d skip : ℕ} {w : Placed} {es ss ks fs later : List ℕ} {after : Core} {tally : Tally} {counts : Counts}
+        → Times (Packets i d w) packed k h (measured (countOf (k .streams)) (packetsBy (k .pending) (first .values) (first .bytes) l body now))
+        → Lists skip (t .skip) (samplesOf (measuresIn (take i packed)))
+        (entries (t .skip) (isLastPage (h .flags)) (h .granule) (w .from) (measuresIn (take i packed))) (withCarry lent []) es ss ks fs
         → later ≡ withRest (restOf left body) now → counts ≡ countsBy i d w (t .skip) (isLastPage (h .flags)) (h .granule)
         → after ≡ nextCore k h (begunBy left) (At (h .granule)) → tally ≡ tallyAfter t skip counts
-        → FedIs (fedPast11 (readings crc) (readerOf k t) lent (pageWith h l body)) (toldPage (Accepted after tally counts)) (lentOf later es ss ks)
+        → FedIs (fedPast11 (readings crc) (readerOf k t) lent (pageWith h l body)) (toldPage (Accepted after tally counts)) (lentOf later es ss ks fs)
     unfolding whole rest carryAfter
-    completing-accepted {lens} {i} {d} {skip} {w} {es} {ss} {ks} {later} {after} {tally} {counts} m x c z a y =
+    completing-accepted {packed} {i} {d} {skip} {w} {es} {ss} {ks} {fs} {later} {after} {tally} {counts} m x c z a y =
         let told = m .tells ∙ ap (λ (ps : List Bytes). timedBy (measured (countOf (k .streams)) ps) k h) packets-are ∙ judges crc k h few packets in
-        let ds = measures-are crc (k .streams) few packets (measuresIn (take i lens)) (m .runs .measures ∙ ap (measured (countOf (k .streams))) packets-are) in
+        let ds = measures-are crc (k .streams) few packets (measuresIn (take i packed)) (m .runs .measures ∙ ap (measured (countOf (k .streams))) packets-are) in
         let left-is : left ≡ tail = s .scanned .tail in
         let within : tail ≤ length body = subst (λ (n : ℕ). n ≤ length body) left-is (s .left) in
         let later-is =
         c ∙ ap₂ withRest (ap (λ (n : ℕ). restOf n body) left-is ∙ sym (rest-ended l body carry (s .fitting .sums) splits (k .pending))) appends in
         late-by (completing packets (restOf tail body)) (s .fitting .audio) sees
-        (accepted (readings crc) k t h l body lent packets (restOf tail body) i d w lens (begunBy left) told ds (m .runs .few) (m .runs .adds) x later-is a
+        (accepted (readings crc) k t h l body lent packets (restOf tail body) i d w packed (begunBy left) told ds (m .runs .few) (m .runs .adds) x later-is a
         (begun-rest tail body within ∙ ap begunBy (sym left-is)) z y)
 
   -- ---- where none does
 
-  pub piece-page : (bytes left : ℕ) {now later : List ℕ} {after : Core} → NoneCompletes k bytes left l body carry ends lengths kept
+  pub piece-page : (bytes left : ℕ) {now later : List ℕ} {after : Core} → NoneCompletes k bytes left l body lent
       → now ≡ appended Audio carried (take bytes body) carry → later ≡ withRest (restOf (freshBy (k .pending) left) body) now
       → after ≡ nextCore k h (stillBy (k .pending) left) (k .position)
-      → FedIs (fedPast11 (readings crc) (readerOf k t) lent (pageWith h l body)) (toldPage (Accepted after (tallyAfter t (t .skip) noCounts) noCounts)) (lentOf later ends lengths kept)
+      → FedIs (fedPast11 (readings crc) (readerOf k t) lent (pageWith h l body)) (toldPage (Accepted after (tallyAfter t (t .skip) noCounts) noCounts)) (withCarry lent later)
   unfolding whole rest carryAfter
   piece-page bytes left {now} {later} {after} s n c a =
       let o : Open 0 l (firstFrom 0 l) = ways 0 l .1 (s .undone) in

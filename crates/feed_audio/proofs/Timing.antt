@@ -3,7 +3,6 @@ use Prim.Native.Nat.{ℕ, _<_, _^_}
 use mathlib.Core.Path.{_≡_, sym, ap, _∙_}
 use mathlib.Core.List.{List}
 use native.Mathlib.Omega.{arith}
-use lib.ListN.{take}
 use Rattle.refusal.specs.declared.Refusal.{Refusal}
 use Rattle.refusal.specs.Checks.{firstOf}
 use Rattle.refusal.specs.Told.{Told, gives}
@@ -15,29 +14,28 @@ use Rattle.granule.specs.declared.Judged.the-variants.{Placed, Refused as Unpla
 use Rattle.granule.specs.Judging.{judge, judgeChecks, placed, toldJudged}
 use Rattle.granule.proofs.Placing.{placed-fits}
 use Rattle.stream.specs.declared.Core.{Core}
-use Rattle.stream.specs.Readings.{Measure}
+use Rattle.packet_reader.specs.declared.Measure.{Measure}
 use Rattle.page_flags.specs.Flags.{isLastPage}
-use Rattle.feed_audio.specs.declared.packets.Lengths.the-variants.{All, Refused}
+use Rattle.feed_audio.specs.declared.packets.Measured.the-variants.{All, Refused}
 use Rattle.feed_audio.specs.declared.times.Timed.the-variants.{Packets, Refused as Untimed}
 use Rattle.feed_audio.specs.Code.{Measures, timedBy, Times}
-use Rattle.feed_audio.proofs.Measuring.{samples-measures}
 
--- what is told of the sum of the lengths
+-- what is told of the samples
 abbrev pub judgedAs : Core → PageHeader → ℕ → Told Place
 judgedAs k h d = judge (k .position) (k .preskip) (h .granule) d (isLastPage (h .flags))
 
-module _ {lens : List ℕ} (k : Core) (h : PageHeader) {t : Told (List Measure)} where
-  pub unmeasured : {why : Refusal} → Measures (Refused why) lens t → Times (Untimed why) lens k h t
+module _ {packed : List ℕ} (k : Core) (h : PageHeader) {t : Told (List Measure)} where
+  pub unmeasured : {why : Refusal} → Measures (Refused why) packed t → Times (Untimed why) packed k h t
   unmeasured m = record { tells = ap (λ (x : Told (List Measure)). timedBy x k h) (m .tells); runs = tt }
 
-  module _ {n d : ℕ} (m : Measures (All n d) lens t) where
+  module _ {n d : ℕ} (m : Measures (All n d) packed t) where
     judged : {q : Told Place} → q ≡ judgedAs k h d → q ≡ timedBy t k h
-    judged e = e ∙ ap (judgedAs k h) (m .sums .adds ∙ sym (samples-measures (take n lens))) ∙ ap (λ (x : Told (List Measure)). timedBy x k h) (m .tells)
+    judged e = e ∙ ap (judgedAs k h) (m .sums .adds) ∙ ap (λ (x : Told (List Measure)). timedBy x k h) (m .tells)
 
-    pub unplaced : {r : Judged} {why : Refusal} → toldJudged r ≡ judgedAs k h d → r ≡ Unplaced why → Times (Untimed why) lens k h t
+    pub unplaced : {r : Judged} {why : Refusal} → toldJudged r ≡ judgedAs k h d → r ≡ Unplaced why → Times (Untimed why) packed k h t
     unplaced e q = record { tells = judged (ap toldJudged (sym q) ∙ e); runs = tt }
 
-    pub timed : {r : Judged} {w : Place} → toldJudged r ≡ judgedAs k h d → r ≡ Placed w → h .granule < 2 ^ 63 → Times (Packets n d w) lens k h t
+    pub timed : {r : Judged} {w : Place} → toldJudged r ≡ judgedAs k h d → r ≡ Placed w → h .granule < 2 ^ 63 → Times (Packets n d w) packed k h t
     unfolding judge
     timed {r} {w} e q small =
         let told : gives w ≡ judgedAs k h d = ap toldJudged (sym q) ∙ e in

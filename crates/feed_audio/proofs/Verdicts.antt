@@ -15,28 +15,29 @@ use Rattle.refusal.specs.Checks.{Check, _when_, firstOf, orElse}
 use Rattle.refusal.specs.Told.{Told, gives, decided}
 use Rattle.refusal.proofs.Checks.{first-of-append}
 use Rattle.page_layout.specs.declared.PageHeader.{PageHeader}
-use Rattle.packet_reader.specs.Streams.{lengthsOf, isIllegal, isMixed, firstLength, readPacket}
+use Rattle.packet_reader.specs.declared.Measure.{Measure}
+use Rattle.packet_reader.specs.Streams.{measuredOf, isIllegal, isMixed, firstContents}
 use Rattle.granule.specs.declared.Position.{Position}
 use Rattle.granule.specs.declared.Placed.{Placed}
 use Rattle.granule.specs.Judging.{judgeChecks, placed, judge}
 use Rattle.stream.specs.declared.Core.{Core}
 use Rattle.page_flags.specs.Flags.{isLastPage}
-use Rattle.stream.specs.Readings.{Measure, Readings, readings}
+use Rattle.stream.specs.Readings.{Readings, readings}
 use Rattle.stream.specs.Packets.{samplesOf}
 use Rattle.stream.specs.Rules.{packetChecks}
 use Rattle.stream.specs.Feed.{isLate}
 use Rattle.stream.proofs.Clear.{some≢none}
 use Rattle.stream.proofs.Step.{gives≢refuses}
 use Rattle.stream.proofs.Real.{readings-agree}
-use Rattle.feed_audio.specs.Code.{countOf, andLater, measured, timedBy}
+use Rattle.feed_audio.specs.Code.{countOf, andLater, measureIn, measured, timedBy}
 
 -- ---- 15 and 16
 
--- what is decided of a packet whose Opus packets have the lengths of place i
-abbrev readAt : ℕ → Bytes → Told ℕ
+-- what is decided of a packet whose Opus packets are measured at place i
+abbrev readAt : ℕ → Bytes → Told Measure
 readAt i b =
-    decided (pick (not (not (isIllegal (lengthsOf i b)))) (some IllegalPacket) (pick (isMixed (lengthsOf i b)) (some MixedLengths) none))
-    (firstLength (lengthsOf i b))
+    decided (pick (not (not (isIllegal (measuredOf i b)))) (some IllegalPacket) (pick (isMixed (measuredOf i b)) (some MixedLengths) none))
+    (firstContents (measuredOf i b) .measure)
 
 record Counted (n m : ℕ) : Type 0 where
   low : 1 ≤ m
@@ -55,16 +56,16 @@ counted n h = by (eqb n 0) refl
         some-of : (m : ℕ) → (m ≡ 0 → ⊥) → 1 ≤ m
         some-of m z = omega arith
 
-reads : (crc : Bytes → ℕ) (n : ℕ) → n ≤ 255 → (b : Bytes) → readPacket b (countOf n) ≡ readAt (n - 1) b
+reads : (crc : Bytes → ℕ) (n : ℕ) → n ≤ 255 → (b : Bytes) → measureIn b (countOf n) ≡ readAt (n - 1) b
 unfolding readings packetChecks firstOf
 reads crc n h b =
     let k : Counted n (countOf n) = counted n h in
     sym (readings-agree crc .packet b (countOf n) (k .low) (k .high)) ∙ ap (λ (i : ℕ). readAt i b) (k .same)
 
 -- one packet in front of others
-one-more : (a m : Bool) (d : ℕ) (o : Option Refusal) (ds : List Measure)
+one-more : (a m : Bool) (d : Measure) (o : Option Refusal) (ds : List Measure)
     → andLater (decided (pick a (some IllegalPacket) (pick m (some MixedLengths) none)) d) (decided o ds)
-    ≡ decided (pick a (some IllegalPacket) (pick m (some MixedLengths) o)) (record { samples = d } ∷ ds)
+    ≡ decided (pick a (some IllegalPacket) (pick m (some MixedLengths) o)) (d ∷ ds)
 one-more true m d o ds = refl
 one-more false true d o ds = refl
 one-more false false d none ds = refl
@@ -79,7 +80,7 @@ module _ (crc : Bytes → ℕ) (n : ℕ) (few : n ≤ 255) where
   measures [] = refl
   measures (b ∷ bs) =
       ap₂ andLater (reads crc n few b) (measures bs)
-      ∙ one-more (not (not (isIllegal (lengthsOf (n - 1) b)))) (isMixed (lengthsOf (n - 1) b)) (firstLength (lengthsOf (n - 1) b)) (firstOf (packetChecks (readings crc) n bs)) (measuring bs)
+      ∙ one-more (not (not (isIllegal (measuredOf (n - 1) b)))) (isMixed (measuredOf (n - 1) b)) (firstContents (measuredOf (n - 1) b) .measure) (firstOf (packetChecks (readings crc) n bs)) (measuring bs)
 
 -- ---- with 19, 18 and 17
 

@@ -1,6 +1,6 @@
 -- What the private functions answer and ask, in the code's words; the files of `proofs/` have the laws to the rules. Assumes
 -- nothing.
-use Prim.Native.Nat.{ℕ, _+_, _*_, _-_, _%_, _≤_, _<_, _^_}
+use Prim.Native.Nat.{ℕ, _+_, _*_, _-_, _/_, _%_, _≤_, _<_, _^_}
 use mathlib.Core.Path.{_≡_}
 use mathlib.Core.Bool.{Bool, true, false}
 use mathlib.Core.List.{List, [], _∷_, _++_}
@@ -11,9 +11,12 @@ use Rattle.octets.specs.Pick.{pick}
 use Rattle.octets.specs.Octets.{Bytes, total}
 use Rattle.limits.specs.Limits.{packetMax, listMax}
 use Rattle.refusal.specs.Checks.{Check, firstOf}
-use Rattle.refusal.specs.Told.{Told, gives, refuses}
+use Rattle.refusal.specs.Told.{Told, gives, refuses, retold}
 use Rattle.refusal.specs.Numbers.{numberOf}
 use Rattle.page_layout.specs.declared.PageHeader.{PageHeader}
+use Rattle.packet_frames.specs.Frames.{samplesMax}
+use Rattle.packet_reader.specs.declared.Measure.{Measure}
+use Rattle.packet_reader.specs.declared.Contents.{Contents}
 use Rattle.packet_reader.specs.Streams.{readPacket}
 use Rattle.granule.specs.declared.Position.{Position}
 use Rattle.granule.specs.declared.Placed.{Placed}
@@ -26,15 +29,15 @@ use Rattle.stream.specs.declared.Core.{Core}
 use Rattle.stream.specs.declared.Counts.{Counts}
 use Rattle.stream.specs.Page.{Page, wholeFrom}
 use Rattle.page_flags.specs.Flags.{isLastPage}
-use Rattle.stream.specs.Lent.{Lent}
-use Rattle.stream.specs.Readings.{Measure, Readings}
+use Rattle.stream.specs.Lent.{Lent, lentOf}
+use Rattle.stream.specs.Readings.{Readings}
 use Rattle.stream.specs.State.{State}
 use Rattle.stream.specs.Packets.{Seen, seen, isLong, audioPackets, samplesOf}
 use Rattle.stream.specs.Rules.{packetChecks, timeChecks}
-use Rattle.stream.specs.Feed.{Reader, view, carriedIn, Entry, listed, Fed, fedBy}
+use Rattle.stream.specs.Feed.{Reader, view, carriedIn, Entry, withEntries, Fed, fedBy}
 use Rattle.feed_audio.specs.declared.packets.Piece.{Piece}
-use Rattle.feed_audio.specs.declared.packets.Lengths.{Lengths}
-use Rattle.feed_audio.specs.declared.packets.Lengths.the-variants.{All, Refused}
+use Rattle.feed_audio.specs.declared.packets.Measured.{Measured}
+use Rattle.feed_audio.specs.declared.packets.Measured.the-variants.{All, Refused}
 use Rattle.feed_audio.specs.declared.times.Timed.{Timed}
 use Rattle.feed_audio.specs.declared.times.Timed.the-variants.{Packets, Refused as Untimed}
 use Rattle.feed_lacing.specs.Scan.{tailBy}
@@ -57,53 +60,69 @@ firstFrom n (v ∷ l) = pick (ltb v 255) (record { values = 1; bytes = n + v; en
 abbrev pub countOf : ℕ → ℕ
 countOf n = pick (eqb n 0) 1 n
 
--- packets by the list of their lengths
+-- a measure in one number, which fits where a packet has fewer than 64 frames; and back
+abbrev pub packedOf : Measure → ℕ
+packedOf m = m .samples * 64 + m .frames
+
+abbrev pub unpacked : ℕ → Measure
+unpacked v = record { samples = v / 64; frames = v % 64 }
+
+-- the measures in some numbers
 unfoldable pub measuresIn : List ℕ → List Measure
 measuresIn [] = []
-measuresIn (d ∷ ds) = record { samples = d } ∷ measuresIn ds
+measuresIn (v ∷ vs) = unpacked v ∷ measuresIn vs
+
+-- a measure that a packet can have
+pub record Packable (m : Measure) : Type 0 where
+  pub samples : m .samples ≤ samplesMax
+  pub frames : m .frames < 64
 
 -- some measures in front of others
 abbrev pub inFront : List Measure → Told (List Measure) → Told (List Measure)
 inFront ms (gives later) = gives (ms ++ later)
 inFront ms (refuses n) = refuses n
 
-abbrev pub andLater : Told ℕ → Told (List Measure) → Told (List Measure)
-andLater (gives d) t = inFront (record { samples = d } ∷ []) t
+abbrev pub andLater : Told Measure → Told (List Measure) → Told (List Measure)
+andLater (gives m) t = inFront (m ∷ []) t
 andLater (refuses n) t = refuses n
+
+-- the measure of a packet of n streams, or its refusal
+abbrev pub measureIn : Bytes → ℕ → Told Measure
+measureIn b n = retold (λ (c : Contents). c .measure) (readPacket b n)
 
 -- the measures of packets of n streams, or the first refusal among them
 unfoldable pub measured : ℕ → List Bytes → Told (List Measure)
 measured n [] = gives []
-measured n (b ∷ bs) = andLater (readPacket b n) (measured n bs)
+measured n (b ∷ bs) = andLater (measureIn b n) (measured n bs)
 
-abbrev pub toldLengths : Lengths → List ℕ → Told (List Measure)
-toldLengths (All n d) lens = gives (measuresIn (take n lens))
-toldLengths (Refused r) lens = refuses (numberOf r)
+abbrev pub toldMeasured : Measured → List ℕ → Told (List Measure)
+toldMeasured (All n d) packed = gives (measuresIn (take n packed))
+toldMeasured (Refused r) packed = refuses (numberOf r)
 
--- n lengths sum to d
-pub record Sums (n d : ℕ) (lens : List ℕ) : Type 0 where
-  pub adds : d ≡ total (take n lens)
-  pub few : n ≤ length lens
-  pub small : d ≤ 5760 * 256
+-- the samples of the first n packets are d
+pub record Sums (n d : ℕ) (packed : List ℕ) : Type 0 where
+  pub adds : d ≡ samplesOf (measuresIn (take n packed))
+  pub few : n ≤ length packed
+  pub small : d ≤ samplesMax * 256
 
-abbrev pub SumsIn : Lengths → List ℕ → Type 0
-SumsIn (All n d) lens = Sums n d lens
-SumsIn (Refused r) lens = Unit {0}
+abbrev pub SumsIn : Measured → List ℕ → Type 0
+SumsIn (All n d) packed = Sums n d packed
+SumsIn (Refused r) packed = Unit {0}
 
-pub record Measures (r : Lengths) (lens : List ℕ) (t : Told (List Measure)) : Type 0 where
-  pub tells : toldLengths r lens ≡ t
-  pub sums : SumsIn r lens
+pub record Measures (r : Measured) (packed : List ℕ) (t : Told (List Measure)) : Type 0 where
+  pub tells : toldMeasured r packed ≡ t
+  pub sums : SumsIn r packed
 
--- what the loop that measures asks: it starts within the page, the page has the bytes, the lengths have room, n of them sum
--- to d
-pub record Ready (from at n d : ℕ) (l body lens : List ℕ) : Type 0 where
+-- what the loop that measures asks: it starts within the page, the page has the bytes, the measures have room, the samples of
+-- n of them are d
+pub record Ready (from at n d : ℕ) (l body packed : List ℕ) : Type 0 where
   pub few : length l ≤ 255
   pub within : from ≤ length l
   pub bytes : at + total (drop from l) ≤ length body
-  pub room : n + length l ≤ length lens + from
+  pub room : n + length l ≤ length packed + from
   pub one : n ≤ 1
-  pub adds : d ≡ total (take n lens)
-  pub small : d ≤ 5760 * n
+  pub adds : d ≡ samplesOf (measuresIn (take n packed))
+  pub small : d ≤ samplesMax * n
 
 -- the packets that complete: the held one lies in the carry buffer, its last piece appended
 abbrev pub packetsBy : Pending → ℕ → ℕ → Bytes → Bytes → Bytes → List Bytes
@@ -118,9 +137,9 @@ heldEnd (Held n) b = n + b
 heldEnd Dropped b = 0
 
 -- what the code that measures asks: a page that passed 3 and 9, and room
-pub record Measurable (pending : Pending) (values bytes : ℕ) (l body carry lens : List ℕ) : Type 0 where
+pub record Measurable (pending : Pending) (values bytes : ℕ) (l body carry packed : List ℕ) : Type 0 where
   pub few : length l ≤ 255
-  pub room : 255 ≤ length lens
+  pub room : 255 ≤ length packed
   pub some : 1 ≤ values
   pub within : values ≤ length l
   pub sums : total l ≤ length body
@@ -138,38 +157,36 @@ abbrev pub toldTimed : Timed → Told Placed
 toldTimed (Packets n d w) = gives w
 toldTimed (Untimed r) = refuses (numberOf r)
 
--- accepted: the lengths are at the start of the list, and the stamps fit
-pub record Runs (n d : ℕ) (w : Placed) (lens : List ℕ) (k : Core) (h : PageHeader) (t : Told (List Measure)) : Type 0 where
-  pub measures : gives (measuresIn (take n lens)) ≡ t
-  pub adds : d ≡ total (take n lens)
-  pub few : n ≤ length lens
+-- accepted: the measures are at the start of the list, and the stamps fit
+pub record Runs (n d : ℕ) (w : Placed) (packed : List ℕ) (k : Core) (h : PageHeader) (t : Told (List Measure)) : Type 0 where
+  pub measures : gives (measuresIn (take n packed)) ≡ t
+  pub adds : d ≡ samplesOf (measuresIn (take n packed))
+  pub few : n ≤ length packed
   pub place : w ≡ placed (k .position) (isLastPage (h .flags)) (h .granule) d
-  pub fits : w .from + total (take n lens) < 2 ^ 64
+  pub fits : w .from + samplesOf (measuresIn (take n packed)) < 2 ^ 64
 
 abbrev pub RunsIn : Timed → List ℕ → Core → PageHeader → Told (List Measure) → Type 0
-RunsIn (Packets n d w) lens k h t = Runs n d w lens k h t
-RunsIn (Untimed r) lens k h t = Unit {0}
+RunsIn (Packets n d w) packed k h t = Runs n d w packed k h t
+RunsIn (Untimed r) packed k h t = Unit {0}
 
-pub record Times (r : Timed) (lens : List ℕ) (k : Core) (h : PageHeader) (t : Told (List Measure)) : Type 0 where
+pub record Times (r : Timed) (packed : List ℕ) (k : Core) (h : PageHeader) (t : Told (List Measure)) : Type 0 where
   pub tells : toldTimed r ≡ timedBy t k h
-  pub runs : RunsIn r lens k h t
+  pub runs : RunsIn r packed k h t
 
 -- ---- the lists
 
-pub record Room (n from : ℕ) (ls es ss ks : List ℕ) : Type 0 where
-  pub lens : n ≤ length ls
+pub record Room (n from : ℕ) (packed es ss ks fs : List ℕ) : Type 0 where
+  pub measures : n ≤ length packed
   pub ends : n ≤ length es
   pub lengths : n ≤ length ss
   pub kept : n ≤ length ks
-  pub fits : from + total (take n ls) < 2 ^ 64
+  pub frames : n ≤ length fs
+  pub fits : from + samplesOf (measuresIn (take n packed)) < 2 ^ 64
 
--- the three lists with these entries, and the samples that are then still to skip
-pub record Lists (left : ℕ) (ends lengths kept : List ℕ) (skip : ℕ) (ds : List ℕ) (es : List Entry)
-    (ends₀ lengths₀ kept₀ : List ℕ) : Type 0 where
-  pub ended : ends ≡ listed (λ (e : Entry). e .end) es ends₀
-  pub sized : lengths ≡ listed (λ (e : Entry). e .samples) es lengths₀
-  pub keeps : kept ≡ listed (λ (e : Entry). e .kept) es kept₀
-  pub skips : left ≡ skip - total ds
+-- the four lists, from `old`, with these entries, and the samples that are then still to skip, d of them being listed
+pub record Lists (left skip d : ℕ) (es : List Entry) (old : Lent) (ends lengths kept frames : List ℕ) : Type 0 where
+  pub lists : lentOf (old .carry) ends lengths kept frames ≡ withEntries es old
+  pub skips : left ≡ skip - d
 
 abbrev pub countsBy : ℕ → ℕ → Placed → ℕ → Bool → ℕ → Counts
 countsBy n d w skip last g = record {
@@ -218,14 +235,15 @@ unfoldable pub fedPast11 : Readings → Reader → Lent → Page → Fed
 fedPast11 R r m p = onPast11 R r m (view (r .core) (m .carry)) p (seen (view (r .core) (m .carry)) p)
 
 -- an audio page, and the room of 1
-pub record Fitting (k : Core) (l body cs es ss ks : List ℕ) : Type 0 where
+pub record Fitting (k : Core) (l body : Bytes) (m : Lent) : Type 0 where
   pub audio : k .phase ≡ Audio
   pub few : length l ≤ 255
   pub sums : total l ≡ length body
-  pub carry : packetMax ≤ length cs
-  pub ends : listMax ≤ length es
-  pub lengths : listMax ≤ length ss
-  pub kept : listMax ≤ length ks
+  pub carry : packetMax ≤ length (m .carry)
+  pub ends : listMax ≤ length (m .ends)
+  pub lengths : listMax ≤ length (m .lengths)
+  pub kept : listMax ≤ length (m .kept)
+  pub frames : listMax ≤ length (m .frames)
 
 -- it has passed 9; `rest` bytes of its last packet are left
 pub record Scanned (k : Core) (l : Bytes) (carry : List ℕ) (first : Piece) (rest : ℕ) : Type 0 where
@@ -234,19 +252,18 @@ pub record Scanned (k : Core) (l : Bytes) (carry : List ℕ) (first : Piece) (re
   pub tail : rest ≡ tailBy (k .pending) l
 
 -- a packet completes
-pub record AnyCompletes (k : Core) (h : PageHeader) (first : Piece) (rest : ℕ)
-    (l body carry ends lengths kept : List ℕ) : Type 0 where
-  pub fitting : Fitting k l body carry ends lengths kept
-  pub scanned : Scanned k l carry first rest
+pub record AnyCompletes (k : Core) (h : PageHeader) (first : Piece) (rest : ℕ) (l body : Bytes) (m : Lent) : Type 0 where
+  pub fitting : Fitting k l body m
+  pub scanned : Scanned k l (m .carry) first rest
   pub done : firstFrom 0 l .ends ≡ true
-  pub measurable : Measurable (k .pending) (first .values) (first .bytes) l body carry ends
+  pub measurable : Measurable (k .pending) (first .values) (first .bytes) l body (m .carry) (m .ends)
   pub bytes : first .bytes ≤ length body
   pub left : rest ≤ length body
   pub granule : h .granule < 2 ^ 63
 
 -- none does
-pub record NoneCompletes (k : Core) (bytes rest : ℕ) (l body carry ends lengths kept : List ℕ) : Type 0 where
-  pub fitting : Fitting k l body carry ends lengths kept
+pub record NoneCompletes (k : Core) (bytes rest : ℕ) (l body : Bytes) (m : Lent) : Type 0 where
+  pub fitting : Fitting k l body m
   pub piece : bytes ≡ firstFrom 0 l .bytes
   pub tail : rest ≡ tailBy (k .pending) l
   pub undone : firstFrom 0 l .ends ≡ false

@@ -9,7 +9,7 @@ ghost use Rattle.octets.specs.Octets.{Bytes};
 ghost use Rattle.stream.specs.Page.{pageWith};
 ghost use Rattle.stream.specs.Readings.{readings};
 ghost use Rattle.stream.specs.Feed.{readerOf, FedIs, toldPage};
-ghost use Rattle.stream.specs.Lent.{lentOf, atEntry, atExit};
+ghost use Rattle.stream.specs.Lent.{Lent, lentOf, withCarry, atEntry, atExit};
 ghost use Rattle.stream.specs.State.{isAudio};
 ghost use Rattle.feed_audio.specs.Audio.{audioOn, FeedsAudio};
 ghost use Rattle.feed_audio.specs.Code.{freshBy, fedPast11, Fitting, AnyCompletes, NoneCompletes};
@@ -49,22 +49,24 @@ fn feed_completing(
     ends: &mut [u64],
     lengths: &mut [u64],
     kept: &mut [u64],
+    frames: &mut [u64],
 ) -> PageFed
-    requires { ⌜ AnyCompletes core h first rest (now lacing) (now body) (now carry) (now ends) (now lengths) (now kept) ⌝ }
+    requires { ⌜ AnyCompletes core h first rest (now lacing) (now body)
+        (lentOf (now carry) (now ends) (now lengths) (now kept) (now frames)) ⌝ }
     ensures { λ r. ⌜ ((crc : Bytes → ℕ) →
-        FedIs (fedPast11 (readings crc) (readerOf core tally) (atEntry carry ends lengths kept)
-        (pageWith h (now (lacing .entry)) (now (body .entry)))) (toldPage r) (atExit carry ends lengths kept)) ⌝ }
+        FedIs (fedPast11 (readings crc) (readerOf core tally) (atEntry carry ends lengths kept frames)
+        (pageWith h (now (lacing .entry)) (now (body .entry)))) (toldPage r) (atExit carry ends lengths kept frames)) ⌝ }
 {
     let pending = core.pending;
     let skip = tally.skip;
     carried::append(pending, first.bytes, body, carry);
-    let mut lens = [0u32; 255];
-    match times::time_page(core, h, first, lacing, body, carry, &mut lens) {
+    let mut measures = [0u32; 255];
+    match times::time_page(core, h, first, lacing, body, carry, &mut measures) {
         Timed::Refused(why) => PageFed::Refused(why),
         Timed::Packets(count, d, place) => {
             let last = page_flags::is_last_page(h.flags);
             let left = times::list_packets(
-                &lens,
+                &measures,
                 count,
                 place.from,
                 skip,
@@ -73,6 +75,7 @@ fn feed_completing(
                 ends,
                 lengths,
                 kept,
+                frames,
             );
             carried::keep_rest(rest, body, carry);
             let counts = times::counts_of(count, d, place, skip, last, h.granule);
@@ -94,10 +97,10 @@ fn feed_piece(
 ) -> PageFed
     requires piece { ⌜ bytes ≤ length (now body) ⌝ }
     requires fresh { ⌜ freshBy (core .pending) rest ≤ length (now body) ⌝ }
-    ensures { λ r. ⌜ ((crc : Bytes → ℕ) (l ends lengths kept : List ℕ) →
-        NoneCompletes core bytes rest l (now (body .entry)) (now (carry .entry)) ends lengths kept →
-        FedIs (fedPast11 (readings crc) (readerOf core tally) (lentOf (now (carry .entry)) ends lengths kept)
-        (pageWith h l (now (body .entry)))) (toldPage r) (lentOf (now (carry .exit)) ends lengths kept)) ⌝ }
+    ensures { λ r. ⌜ ((crc : Bytes → ℕ) (l : List ℕ) (m : Lent) →
+        NoneCompletes core bytes rest l (now (body .entry)) (withCarry m (now (carry .entry))) →
+        FedIs (fedPast11 (readings crc) (readerOf core tally) (withCarry m (now (carry .entry)))
+        (pageWith h l (now (body .entry)))) (toldPage r) (withCarry m (now (carry .exit)))) ⌝ }
 {
     let pending = core.pending;
     let position = core.position;
@@ -123,11 +126,13 @@ fn feed_page(
     ends: &mut [u64],
     lengths: &mut [u64],
     kept: &mut [u64],
+    frames: &mut [u64],
 ) -> PageFed
-    requires { ⌜ Fitting core (now lacing) (now body) (now carry) (now ends) (now lengths) (now kept) ⌝ }
+    requires { ⌜ Fitting core (now lacing) (now body)
+        (lentOf (now carry) (now ends) (now lengths) (now kept) (now frames)) ⌝ }
     ensures { λ r. ⌜ ((crc : Bytes → ℕ) →
-        FedIs (audioOn (readings crc) (readerOf core tally) (atEntry carry ends lengths kept)
-        (pageWith h (now (lacing .entry)) (now (body .entry)))) (toldPage r) (atExit carry ends lengths kept)) ⌝ }
+        FedIs (audioOn (readings crc) (readerOf core tally) (atEntry carry ends lengths kept frames)
+        (pageWith h (now (lacing .entry)) (now (body .entry)))) (toldPage r) (atExit carry ends lengths kept frames)) ⌝ }
 {
     let pending = core.pending;
     let first = packets::first_piece(lacing);
@@ -150,6 +155,7 @@ fn feed_page(
                     ends,
                     lengths,
                     kept,
+                    frames,
                 );
             }
             feed_piece(core, tally, h, first.bytes, rest, body, carry)
@@ -174,7 +180,7 @@ fn is_fed(phase: Phase, short: bool, lacing: &[u8], body: &[u8]) -> bool
 // buffer or a lent list is too short, these are no lacing values and body of a page, or the state is not among the audio
 // pages; all stays.
 // Example: where the position is 960, nothing is pending and nothing is to skip, a page of one packet of 960 samples with
-// granule position 1920 lists the end stamp 1920, the length 960 and the kept count 960.
+// granule position 1920 lists the end stamp 1920, the length 960, the kept count 960 and the frames, 1.
 pub fn feed_audio(
     core: Core,
     tally: Tally,
@@ -185,15 +191,33 @@ pub fn feed_audio(
     ends: &mut [u64],
     lengths: &mut [u64],
     kept: &mut [u64],
+    frames: &mut [u64],
 ) -> AudioFed
     ensures { λ r. ⌜ ((crc : Bytes → ℕ) →
         FeedsAudio (readings crc) (readerOf core tally) (pageWith h (now (lacing .entry)) (now (body .entry)))
-        (atEntry carry ends lengths kept) r (atExit carry ends lengths kept)) ⌝ }
+        (atEntry carry ends lengths kept frames) r (atExit carry ends lengths kept frames)) ⌝ }
 {
     let phase = core.phase;
-    let short = feed_memory::is_short(carry.len(), ends.len(), lengths.len(), kept.len());
+    let short = feed_memory::is_short(
+        carry.len(),
+        ends.len(),
+        lengths.len(),
+        kept.len(),
+        frames.len(),
+    );
     if !is_fed(phase, short, lacing, body) {
         return AudioFed::NotAudio;
     }
-    AudioFed::Page(feed_page(core, tally, h, lacing, body, carry, ends, lengths, kept))
+    AudioFed::Page(feed_page(
+        core,
+        tally,
+        h,
+        lacing,
+        body,
+        carry,
+        ends,
+        lengths,
+        kept,
+        frames,
+    ))
 }

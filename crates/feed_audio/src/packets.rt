@@ -1,10 +1,11 @@
-// The pieces of a page by its lacing values, and the lengths of the packets that complete on it.
+// The pieces of a page by its lacing values, and the measures of the packets that complete on it.
 ghost use mathlib.Core.Path.{_≡_};
 ghost use Prim.Native.Nat.{_+_, _<_, _≤_};
 ghost use lib.ListN.{length, take, drop};
 ghost use Rattle.stream.specs.Page.{wholeFrom};
-ghost use Rattle.feed_audio.specs.Code.{firstFrom, countOf, measuresIn, inFront, measured, Measures};
-ghost use Rattle.feed_audio.specs.Code.{Ready, packetsBy, Measurable};
+ghost use Rattle.feed_audio.specs.Code.{firstFrom, countOf, Packable, packedOf, measuresIn, inFront, measured};
+ghost use Rattle.feed_audio.specs.Code.{Measures, Ready, packetsBy, Measurable};
+use packet_reader::Measure;
 use packet_reader::PacketRead;
 use refusal::Refusal;
 use stream::Pending;
@@ -41,11 +42,19 @@ pub(crate) fn first_piece(lacing: &[u8]) -> Piece
     }
 }
 
-pub(crate) enum Lengths {
+pub(crate) enum Measured {
     // how many packets there are, and the sum of their lengths in samples
     All(usize, u32),
     // 15 or 16
     Refused(Refusal),
+}
+
+// A measure in one number, so that those of a page are one array: no packet has 64 frames.
+fn packed(m: Measure) -> u32
+    requires { ⌜ Packable m ⌝ }
+    ensures { λ r. ⌜ r ≡ packedOf m ⌝ }
+{
+    m.samples * 64 + m.frames
 }
 
 // A reader that has its headers has 1 to 255 streams.
@@ -55,21 +64,21 @@ pub(crate) fn stream_count(streams: u8) -> u64
     if streams == 0 { 1 } else { streams as u64 }
 }
 
-// Measures the packets that complete in `body` from value `from` and byte `at` on. The first `n` of `lens` are there
-// already and sum to `d`.
+// Measures the packets that complete in `body` from value `from` and byte `at` on, into `measures`. The first `n` are there
+// already, and have `d` samples.
 fn measure(
     lacing: &[u8],
     body: &[u8],
     from: usize,
     at: usize,
     streams: u64,
-    lens: &mut [u32],
+    measures: &mut [u32],
     n: usize,
     d: u32,
-) -> Lengths
-    requires { ⌜ Ready from at n d (now lacing) (now body) (now lens) ⌝ }
+) -> Measured
+    requires { ⌜ Ready from at n d (now lacing) (now body) (now measures) ⌝ }
     ensures { λ r. ⌜
-        Measures r (now (lens .exit)) (inFront (measuresIn (take n (now (lens .entry))))
+        Measures r (now (measures .exit)) (inFront (measuresIn (take n (now (measures .entry))))
         (measured streams (wholeFrom 0 (drop from (now (lacing .entry))) (drop at (now (body .entry)))))) ⌝ }
 {
     let mut count = n;
@@ -84,18 +93,19 @@ fn measure(
         if v < 255 {
             let end = start + bytes;
             match packet_reader::read_packet_quick(&body[start..end], streams) {
-                PacketRead::Refused(why) => return Lengths::Refused(why),
-                PacketRead::Samples(s) => {
-                    lens[count] = s;
+                PacketRead::Refused(why) => return Measured::Refused(why),
+                PacketRead::Legal(contents) => {
+                    let m = contents.measure;
+                    measures[count] = packed(m);
                     count += 1;
-                    sum += s;
+                    sum += m.samples;
                 }
             }
             start = end;
             bytes = 0;
         }
     }
-    Lengths::All(count, sum)
+    Measured::All(count, sum)
 }
 
 // Measures the packets of a page whose first piece, of `values` values and `bytes` bytes, ends. A held packet is whole in
@@ -108,23 +118,24 @@ pub(crate) fn measure_page(
     body: &[u8],
     carry: &[u8],
     streams: u64,
-    lens: &mut [u32],
-) -> Lengths
-    requires { ⌜ Measurable pending values bytes (now lacing) (now body) (now carry) (now lens) ⌝ }
+    measures: &mut [u32],
+) -> Measured
+    requires { ⌜ Measurable pending values bytes (now lacing) (now body) (now carry) (now measures) ⌝ }
     ensures { λ r. ⌜
-        Measures r (now (lens .exit)) (measured streams
+        Measures r (now (measures .exit)) (measured streams
         (packetsBy pending values bytes (now (lacing .entry)) (now (body .entry)) (now (carry .entry)))) ⌝ }
 {
     match pending {
-        Pending::Nothing => measure(lacing, body, 0, 0, streams, lens, 0, 0),
-        Pending::Dropped => measure(lacing, body, values, bytes, streams, lens, 0, 0),
+        Pending::Nothing => measure(lacing, body, 0, 0, streams, measures, 0, 0),
+        Pending::Dropped => measure(lacing, body, values, bytes, streams, measures, 0, 0),
         Pending::Held(n) => {
             let whole = n + bytes;
             match packet_reader::read_packet(&carry[..whole], streams) {
-                PacketRead::Refused(why) => Lengths::Refused(why),
-                PacketRead::Samples(s) => {
-                    lens[0] = s;
-                    measure(lacing, body, values, bytes, streams, lens, 1, s)
+                PacketRead::Refused(why) => Measured::Refused(why),
+                PacketRead::Legal(contents) => {
+                    let m = contents.measure;
+                    measures[0] = packed(m);
+                    measure(lacing, body, values, bytes, streams, measures, 1, m.samples)
                 }
             }
         }

@@ -3,11 +3,14 @@ ghost use mathlib.Core.Path.{_≡_};
 ghost use Prim.Native.Nat.{_-_, _<_, _^_};
 ghost use lib.ListN.{take};
 ghost use Rattle.granule.specs.Samples.{trimmedOf};
+ghost use mathlib.Core.List.{[]};
+ghost use Rattle.stream.specs.Lent.{lentOf};
+ghost use Rattle.stream.specs.Packets.{samplesOf};
 ghost use Rattle.stream.specs.Feed.{entries};
 ghost use Rattle.feed_audio.specs.Code.{countOf, measuresIn, measured, packetsBy, Measurable, Times, Room, Lists};
 ghost use Rattle.feed_audio.specs.Code.{countsBy};
 use super::packets;
-use super::packets::Lengths;
+use super::packets::Measured;
 use super::packets::Piece;
 use granule::Judged;
 use granule::Placed;
@@ -23,7 +26,7 @@ pub(crate) enum Timed {
     Refused(Refusal),
 }
 
-// Measures the packets that complete on a page, their lengths into `lens`, and judges the page by them: where they lie, or 15
+// Measures the packets that complete on a page, into `measures`, and judges the page by their lengths: where they lie, or 15
 // to 19.
 pub(crate) fn time_page(
     core: Core,
@@ -32,13 +35,13 @@ pub(crate) fn time_page(
     lacing: &[u8],
     body: &[u8],
     carry: &[u8],
-    lens: &mut [u32],
+    measures: &mut [u32],
 ) -> Timed
     requires measurable { ⌜
-        Measurable (core .pending) (first .values) (first .bytes) (now lacing) (now body) (now carry) (now lens) ⌝ }
+        Measurable (core .pending) (first .values) (first .bytes) (now lacing) (now body) (now carry) (now measures) ⌝ }
     requires small { ⌜ h .granule < 2 ^ 63 ⌝ }
     ensures { λ r. ⌜
-        Times r (now (lens .exit)) core h (measured (countOf (core .streams))
+        Times r (now (measures .exit)) core h (measured (countOf (core .streams))
         (packetsBy (core .pending) (first .values) (first .bytes)
         (now (lacing .entry)) (now (body .entry)) (now (carry .entry)))) ⌝ }
 {
@@ -54,10 +57,16 @@ pub(crate) fn time_page(
         body,
         carry,
         streams,
-        lens,
+        measures,
     ) {
-        Lengths::Refused(why) => Timed::Refused(why),
-        Lengths::All(count, d) => match granule::judge(position, core.preskip, h.granule, d, last) {
+        Measured::Refused(why) => Timed::Refused(why),
+        Measured::All(count, d) => match granule::judge(
+            position,
+            core.preskip,
+            h.granule,
+            d,
+            last,
+        ) {
             Judged::Refused(why) => Timed::Refused(why),
             Judged::Placed(place) => Timed::Packets(count, d, place),
         },
@@ -77,10 +86,10 @@ fn wide(d: u32) -> u64
     d as u64
 }
 
-// Lists the packets of the first `n` lengths, the first beginning after position `from`: how many samples are then still to
+// Lists the packets of the first `n` measures, the first beginning after position `from`: how many samples are then still to
 // skip.
 pub(crate) fn list_packets(
-    lens: &[u32],
+    measures: &[u32],
     n: usize,
     from: u64,
     skip: u16,
@@ -89,23 +98,27 @@ pub(crate) fn list_packets(
     ends: &mut [u64],
     lengths: &mut [u64],
     kept: &mut [u64],
+    frames: &mut [u64],
 ) -> u16
-    requires { ⌜ Room n from (now lens) (now ends) (now lengths) (now kept) ⌝ }
+    requires { ⌜ Room n from (now measures) (now ends) (now lengths) (now kept) (now frames) ⌝ }
     ensures { λ r. ⌜
-        Lists r (now (ends .exit)) (now (lengths .exit)) (now (kept .exit)) skip (take n (now (lens .entry)))
-        (entries skip last g from (measuresIn (take n (now (lens .entry)))))
-        (now (ends .entry)) (now (lengths .entry)) (now (kept .entry)) ⌝ }
+        Lists r skip (samplesOf (measuresIn (take n (now (measures .entry)))))
+        (entries skip last g from (measuresIn (take n (now (measures .entry)))))
+        (lentOf [] (now (ends .entry)) (now (lengths .entry)) (now (kept .entry)) (now (frames .entry)))
+        (now (ends .exit)) (now (lengths .exit)) (now (kept .exit)) (now (frames .exit)) ⌝ }
 {
     let mut at = from;
     let mut left = skip;
     let mut i: usize = 0;
     while i < n {
-        let d = lens[i];
+        let m = measures[i];
+        let d = m / 64;
         let samples = wide(d);
         kept[i] = granule::kept(at, d, left, g, last);
         at += samples;
         ends[i] = at;
         lengths[i] = samples;
+        frames[i] = wide(m % 64);
         left = skip_after(left, d);
         i += 1;
     }

@@ -73,7 +73,7 @@ module _ (R : Readings) (t : State) (p : Page) (x : Seen) where
         → FedIs (fedBy v R r m t p x) (toldPage (Refused why)) (withCarry m carry)
     unfolding carryAfter
     refused-late none a why carry e l c = absurd (true≢false (sym l))
-    refused-late (some n) a why carry e l c = record { told = ap refuses (sym (ap numberIn e)); lent = same-lent (rw l c) refl refl refl }
+    refused-late (some n) a why carry e l c = record { told = ap refuses (sym (ap numberIn e)); lent = same-lent (rw l c) refl refl refl refl }
 
     -- an accepted header page
     module _ (inside : inHeaders (t .phase) ≡ true) where
@@ -94,4 +94,4 @@ module _ (R : Readings) (t : State) (p : Page) (x : Seen) where
           → FedIs (fedBy v R r m t p x) (toldPage (Accepted core (tallyAfter (r .tally) skip noCounts) noCounts)) (withCarry m carry)
       unfolding tallyOn
       accepted v core skip carry e k s c =
-          rw (e, no-counts (r .tally .skip), no-entries (r .tally .skip), ← k, ← s) (record { told = refl; lent = same-lent c refl refl refl })
+          rw (e, no-counts (r .tally .skip), no-entries (r .tally .skip), ← k, ← s) (record { told = refl; lent = same-lent c refl refl refl refl })

@@ -16,20 +16,20 @@ pub fn is_carry_short(carry: usize) -> bool
     carry < PACKET_MAX
 }
 
-// Whether 1 holds of the three lists, by their lengths: one has fewer than 255 places (RULES.md, 1).
-// Example: `are_lists_short(255, 254, 255)` is true, and `are_lists_short(255, 255, 255)` is false.
-pub fn are_lists_short(ends: usize, lengths: usize, kept: usize) -> bool
-    ensures { λ r. ⌜ r ≡ shortLists ends lengths kept ⌝ }
+// Whether 1 holds of the four lists, by their lengths: one has fewer than 255 places (RULES.md, 1).
+// Example: `are_lists_short(255, 254, 255, 255)` is true, and `are_lists_short(255, 255, 255, 255)` is false.
+pub fn are_lists_short(ends: usize, lengths: usize, kept: usize, frames: usize) -> bool
+    ensures { λ r. ⌜ r ≡ shortLists ends lengths kept frames ⌝ }
 {
-    (ends < LIST_MAX) | ((lengths < LIST_MAX) | (kept < LIST_MAX))
+    (ends < LIST_MAX) | ((lengths < LIST_MAX) | ((kept < LIST_MAX) | (frames < LIST_MAX)))
 }
 
 // Whether 1 holds, by the lengths of what is lent: the carry buffer or one of the lists is too short (RULES.md, 1).
-// Example: `is_short(61440, 255, 255, 254)` is true, and `is_short(61440, 255, 255, 255)` is false.
-pub fn is_short(carry: usize, ends: usize, lengths: usize, kept: usize) -> bool
-    ensures { λ r. ⌜ r ≡ shortBy carry ends lengths kept ⌝ }
+// Example: `is_short(61440, 255, 255, 255, 254)` is true, and `is_short(61440, 255, 255, 255, 255)` is false.
+pub fn is_short(carry: usize, ends: usize, lengths: usize, kept: usize, frames: usize) -> bool
+    ensures { λ r. ⌜ r ≡ shortBy carry ends lengths kept frames ⌝ }
 {
-    is_carry_short(carry) | are_lists_short(ends, lengths, kept)
+    is_carry_short(carry) | are_lists_short(ends, lengths, kept, frames)
 }
 
 // How many bytes of the carry buffer are held (RULES.md, 7). It refuses nothing.

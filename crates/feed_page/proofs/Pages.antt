@@ -107,7 +107,7 @@ module _ (crc : Bytes → ℕ) (b : Bytes) (h : PageHeader) (e : readPage crc b 
   clear : (not (isOnePage b) ≡ false) × (firstOf (WrongChecksum when not (eqb (crc b) (checksumOf b)) ∷ []) ≡ none)
   clear = passed NotOnePage (not (isOnePage b)) _ (none-found .0)
 
-short-by : (m : Lent) → isShort m ≡ shortBy (length (m .carry)) (length (m .ends)) (length (m .lengths)) (length (m .kept))
+short-by : (m : Lent) → isShort m ≡ shortBy (length (m .carry)) (length (m .ends)) (length (m .lengths)) (length (m .kept)) (length (m .frames))
 unfolding isShort
 short-by m = refl
 
@@ -185,11 +185,11 @@ module _ (crc : Bytes → ℕ) (core : Core) (tally : Tally) (m : Lent) (b : Byt
 -- 1 and 2
 module _ (ph : Phase) (m : Lent) where
   abbrev found-unread : Option Refusal
-  found-unread = firstOf (unreadChecks ph (length (m .carry)) (length (m .ends)) (length (m .lengths)) (length (m .kept)))
+  found-unread = firstOf (unreadChecks ph (length (m .carry)) (length (m .ends)) (length (m .lengths)) (length (m .kept)) (length (m .frames)))
 
   pub none-unread : found-unread ≡ none → (isEnded ph ≡ false) × (isShort m ≡ false)
   none-unread e =
-      let first = passed ShortRoom (shortBy (length (m .carry)) (length (m .ends)) (length (m .lengths)) (length (m .kept))) _ e in
+      let first = passed ShortRoom (shortBy (length (m .carry)) (length (m .ends)) (length (m .lengths)) (length (m .kept)) (length (m .frames))) _ e in
       (passed AfterEnd (isEnded ph) [] (first .1) .0, short-by m ∙ first .0)
 
 pub some-unread : (crc : Bytes → ℕ) (core : Core) (tally : Tally) (m : Lent) (b : Bytes) (n : Refusal) → found-unread (core .phase) m ≡ some n

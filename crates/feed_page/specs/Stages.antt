@@ -29,8 +29,9 @@ use Rattle.feed_page.specs.declared.Due.{Due}
 use Rattle.feed_page.specs.declared.Due.the-variants.{Page as Awaited, Refused}
 
 -- 1 and 2, before a page is read
-abbrev pub unreadChecks : Phase → ℕ → ℕ → ℕ → ℕ → List Check
-unreadChecks ph carry ends lengths kept = ShortRoom when shortBy carry ends lengths kept ∷ AfterEnd when isEnded ph ∷ []
+abbrev pub unreadChecks : Phase → ℕ → ℕ → ℕ → ℕ → ℕ → List Check
+unreadChecks ph carry ends lengths kept frames =
+    ShortRoom when shortBy carry ends lengths kept frames ∷ AfterEnd when isEnded ph ∷ []
 
 -- 9 to 19
 abbrev pub checks9to19 : Readings → State → Page → Seen → List Check

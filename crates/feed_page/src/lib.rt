@@ -28,10 +28,17 @@ use stream::Phase;
 use stream::Tally;
 
 // 1 and 2, by the lengths of what is lent: no page is read under these.
-fn check_unread(phase: Phase, carry: usize, ends: usize, lengths: usize, kept: usize) -> Checked
-    ensures { λ r. ⌜ found r ≡ firstOf (unreadChecks phase carry ends lengths kept) ⌝ }
+fn check_unread(
+    phase: Phase,
+    carry: usize,
+    ends: usize,
+    lengths: usize,
+    kept: usize,
+    frames: usize,
+) -> Checked
+    ensures { λ r. ⌜ found r ≡ firstOf (unreadChecks phase carry ends lengths kept frames) ⌝ }
 {
-    if feed_memory::is_short(carry, ends, lengths, kept) {
+    if feed_memory::is_short(carry, ends, lengths, kept, frames) {
         return Checked::Refused(Refusal::ShortRoom);
     }
     if feed_phase::is_ended(phase) {
@@ -105,11 +112,12 @@ fn feed_read(
     ends: &mut [u64],
     lengths: &mut [u64],
     kept: &mut [u64],
+    frames: &mut [u64],
 ) -> PageFed
     ensures { λ r. ⌜ ((crc : Bytes → ℕ) →
-        Unrefused crc core read (now (page .entry)) (atEntry carry ends lengths kept) →
+        Unrefused crc core read (now (page .entry)) (atEntry carry ends lengths kept frames) →
         Feeds (readings crc) (readerOf core tally) (now (page .entry))
-        (atEntry carry ends lengths kept) (toldPage r) (atExit carry ends lengths kept)) ⌝ }
+        (atEntry carry ends lengths kept frames) (toldPage r) (atExit carry ends lengths kept frames)) ⌝ }
 {
     match page_due(core, read) {
         Due::Page(due, h) => {
@@ -127,6 +135,7 @@ fn feed_read(
                     ends,
                     lengths,
                     kept,
+                    frames,
                 ));
             }
             of_header(feed_header::feed_header(due, tally, h, lacing, body, carry))
@@ -136,9 +145,9 @@ fn feed_read(
 }
 
 // Feeds one page to the core of a reader: the next one and the page's own record, or a refusal of 1 to 19, which leaves the
-// three lists as they were. The lowest number that holds is told, but 19 and 18 before 17, and for each packet in turn 15
+// four lists as they were. The lowest number that holds is told, but 19 and 18 before 17, and for each packet in turn 15
 // before 16. The carry buffer has to hold, up to the held count, what the last feeding left there. Of an accepted page the
-// lists show the end stamp, the length and the kept count of each packet (RULES.md, 7).
+// lists show the end stamp, the length, the kept count and the frames of each packet (RULES.md, 7).
 // Example: `feed_start::start_core()` and a right first page give a core in `Phase::Comment` and a record of zeros.
 pub fn feed_core(
     core: Core,
@@ -148,16 +157,24 @@ pub fn feed_core(
     ends: &mut [u64],
     lengths: &mut [u64],
     kept: &mut [u64],
+    frames: &mut [u64],
 ) -> PageFed
     ensures { λ r. ⌜
         Feeds (readings pageCrc) (readerOf core tally) (now (page .entry))
-        (atEntry carry ends lengths kept) (toldPage r) (atExit carry ends lengths kept) ⌝ }
+        (atEntry carry ends lengths kept frames) (toldPage r) (atExit carry ends lengths kept frames) ⌝ }
 {
     let phase = core.phase;
-    match check_unread(phase, carry.len(), ends.len(), lengths.len(), kept.len()) {
+    match check_unread(
+        phase,
+        carry.len(),
+        ends.len(),
+        lengths.len(),
+        kept.len(),
+        frames.len(),
+    ) {
         Checked::Passed => {
             let read = page_reader::read_page(page);
-            feed_read(core, tally, read, page, carry, ends, lengths, kept)
+            feed_read(core, tally, read, page, carry, ends, lengths, kept, frames)
         }
         Checked::Refused(why) => PageFed::Refused(why),
     }
@@ -175,16 +192,24 @@ pub fn feed_core_with(
     ends: &mut [u64],
     lengths: &mut [u64],
     kept: &mut [u64],
+    frames: &mut [u64],
 ) -> PageFed
     ensures { λ r. ⌜
         Feeds (readings (pageSliced (entryIn (now (tables .entry))))) (readerOf core tally) (now (page .entry))
-        (atEntry carry ends lengths kept) (toldPage r) (atExit carry ends lengths kept) ⌝ }
+        (atEntry carry ends lengths kept frames) (toldPage r) (atExit carry ends lengths kept frames) ⌝ }
 {
     let phase = core.phase;
-    match check_unread(phase, carry.len(), ends.len(), lengths.len(), kept.len()) {
+    match check_unread(
+        phase,
+        carry.len(),
+        ends.len(),
+        lengths.len(),
+        kept.len(),
+        frames.len(),
+    ) {
         Checked::Passed => {
             let read = page_reader::read_page_with(tables, page);
-            feed_read(core, tally, read, page, carry, ends, lengths, kept)
+            feed_read(core, tally, read, page, carry, ends, lengths, kept, frames)
         }
         Checked::Refused(why) => PageFed::Refused(why),
     }

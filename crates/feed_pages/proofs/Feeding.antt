@@ -50,16 +50,16 @@ module _ (R : Readings) (b : Bytes) (p : Progress) (m : Lent) where
     unfolding turn
     turn-cut e = rw (places, e)
 
-    module _ (e : ℕ) (ends-at : endAt b (p .bytes) ≡ some e) {t : Told Taken} {carry : Bytes} {ends lengths kept : List ℕ}
-        (is : FedIs (feed R (knownAs (p .reader)) (lentOf (m .carry) (fromPlace (p .packets) (m .ends)) (fromPlace (p .packets) (m .lengths)) (fromPlace (p .packets) (m .kept))) (take (e - p .bytes) (drop (p .bytes) b))) t (lentOf carry ends lengths kept)) where
-      same : lentOf (m .carry) (fromPlace (p .packets) (m .ends)) (fromPlace (p .packets) (m .lengths)) (fromPlace (p .packets) (m .kept)) ≡ past (p .packets) m
-      same = rw (fromPlace-all (p .packets) (m .ends), fromPlace-all (p .packets) (m .lengths), fromPlace-all (p .packets) (m .kept))
+    module _ (e : ℕ) (ends-at : endAt b (p .bytes) ≡ some e) {t : Told Taken} {carry : Bytes} {ends lengths kept frames : List ℕ}
+        (is : FedIs (feed R (knownAs (p .reader)) (lentOf (m .carry) (fromPlace (p .packets) (m .ends)) (fromPlace (p .packets) (m .lengths)) (fromPlace (p .packets) (m .kept)) (fromPlace (p .packets) (m .frames))) (take (e - p .bytes) (drop (p .bytes) b))) t (lentOf carry ends lengths kept frames)) where
+      same : lentOf (m .carry) (fromPlace (p .packets) (m .ends)) (fromPlace (p .packets) (m .lengths)) (fromPlace (p .packets) (m .kept)) (fromPlace (p .packets) (m .frames)) ≡ past (p .packets) m
+      same = rw (fromPlace-all (p .packets) (m .ends), fromPlace-all (p .packets) (m .lengths), fromPlace-all (p .packets) (m .kept), fromPlace-all (p .packets) (m .frames))
 
-      by-parts : FedIs (feed R (knownAs (p .reader)) (past (p .packets) m) (take (e - p .bytes) (drop (p .bytes) b))) t (lentOf carry ends lengths kept)
+      by-parts : FedIs (feed R (knownAs (p .reader)) (past (p .packets) m) (take (e - p .bytes) (drop (p .bytes) b))) t (lentOf carry ends lengths kept frames)
       by-parts = rw same at is
 
       abbrev end : Lent
-      end = lentOf carry (back (p .packets) (m .ends) ends) (back (p .packets) (m .lengths) lengths) (back (p .packets) (m .kept) kept)
+      end = lentOf carry (back (p .packets) (m .ends) ends) (back (p .packets) (m .lengths) lengths) (back (p .packets) (m .kept) kept) (back (p .packets) (m .frames) frames)
 
       pub turn-told : {x : Told Taken} → t ≡ x → after (reached p) e x end ≡ turn R b (reached p) m
       unfolding turn
@@ -73,6 +73,7 @@ module _ (R : Readings) (b : Bytes) (p : Progress) (m : Lent) where
             back-all (p .packets) (m .ends) ends,
             back-all (p .packets) (m .lengths) lengths,
             back-all (p .packets) (m .kept) kept,
+            back-all (p .packets) (m .frames) frames,
           )
 
       -- at most 255 packets

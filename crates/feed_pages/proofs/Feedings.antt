@@ -70,6 +70,7 @@ record Links (R : Readings) (b : Bytes) (a : Reached) (m : Lent) (z : Ended) (F 
   ends : Filled (a .packets) (z .reached .packets) (m .ends) (z .lent .ends) (λ (n : Entry). n .end) (entriesOf (stream R (a .reader) F))
   lengths : Filled (a .packets) (z .reached .packets) (m .lengths) (z .lent .lengths) (λ (n : Entry). n .samples) (entriesOf (stream R (a .reader) F))
   kept : Filled (a .packets) (z .reached .packets) (m .kept) (z .lent .kept) (λ (n : Entry). n .kept) (entriesOf (stream R (a .reader) F))
+  frames : Filled (a .packets) (z .reached .packets) (m .frames) (z .lent .frames) (λ (n : Entry). n .frames) (entriesOf (stream R (a .reader) F))
   numbers : numbersOf R (a .reader) F ≡ replicate (length (stream R (a .reader) F)) none ++ lastNumber (z .why)
   whenCut : z .why ≡ cut → endAt b (z .reached .bytes) ≡ none
   whenFull : z .why ≡ full → isFull (z .reached .packets) (z .lent) ≡ true
@@ -98,6 +99,7 @@ module _ (R : Readings) (b : Bytes) (o : Octets b) (a : Reached) (m : Lent) (fit
     ends = sym (append-nil (take (a .packets) (m .ends)));
     lengths = sym (append-nil (take (a .packets) (m .lengths)));
     kept = sym (append-nil (take (a .packets) (m .kept)));
+    frames = sym (append-nil (take (a .packets) (m .frames)));
     numbers = sym n;
     whenCut = c;
     whenFull = f;
@@ -128,6 +130,7 @@ module _ (R : Readings) (b : Bytes) (o : Octets b) (a : Reached) (m : Lent) (fit
           ends = rw none-shown (stay (a .packets) (m .ends) (fed .lent .ends) (fits .ends) ∙ sym (append-nil (take (a .packets) (m .ends))));
           lengths = rw none-shown (stay (a .packets) (m .lengths) (fed .lent .lengths) (fits .lengths) ∙ sym (append-nil (take (a .packets) (m .lengths))));
           kept = rw none-shown (stay (a .packets) (m .kept) (fed .lent .kept) (fits .kept) ∙ sym (append-nil (take (a .packets) (m .kept))));
+          frames = rw none-shown (stay (a .packets) (m .frames) (fed .lent .frames) (fits .frames) ∙ sym (append-nil (take (a .packets) (m .frames))));
           numbers = rw g;
           whenCut = λ w. refused-cut w;
           whenFull = λ w. refused-full w;
@@ -192,6 +195,7 @@ module _ (R : Readings) (b : Bytes) (o : Octets b) (a : Reached) (m : Lent) (fit
               ends = rw s (is-filled (m .ends) _ (fed .lent .ends) (z .lent .ends) (λ (n : Entry). n .end) (fits .ends) (shown .ends) (is .ends));
               lengths = rw s (is-filled (m .lengths) _ (fed .lent .lengths) (z .lent .lengths) (λ (n : Entry). n .samples) (fits .lengths) (shown .lengths) (is .lengths));
               kept = rw s (is-filled (m .kept) _ (fed .lent .kept) (z .lent .kept) (λ (n : Entry). n .kept) (fits .kept) (shown .kept) (is .kept));
+              frames = rw s (is-filled (m .frames) _ (fed .lent .frames) (z .lent .frames) (λ (n : Entry). n .frames) (fits .frames) (shown .frames) (is .frames));
               numbers = rw (s, is-numbers, is .numbers);
               whenCut = is .whenCut;
               whenFull = is .whenFull;
@@ -240,6 +244,7 @@ run-feeds R r m b o =
       ends = k .ends;
       lengths = k .lengths;
       kept = k .kept;
+      frames = k .frames;
       numbers = k .numbers ∙ ap (λ (n : ℕ). replicate n none ++ lastNumber (feedPages R r m b .why)) pages;
       whenCut = k .whenCut;
       whenFull = k .whenFull;

@@ -37,7 +37,7 @@ module _ (R : Readings) (b : Bytes) (o : Octets b) where
 
 -- a run that has not begun
 pub begun : (r : Reader) (b : Bytes) (m : Lent) → Inside (started r) b m
-begun r b m = record { bytes = omega arith; few = omega arith; ends = omega arith; lengths = omega arith; kept = omega arith }
+begun r b m = record { bytes = omega arith; few = omega arith; ends = omega arith; lengths = omega arith; kept = omega arith; frames = omega arith }
 
 pub enough-turns : EnoughTurns
 unfolding feedPages

@@ -55,13 +55,14 @@ module _ (R : Readings) (b : Bytes) (o : Octets b) (a : Reached) (m : Lent) (fit
       let x = places (a .packets) (m .ends) (fed e .lent .ends) (λ (n : Entry). n .end) (fed e .entries) (drop (a .packets) (m .ends)) (fits .ends) (is .ends) in
       let y = places (a .packets) (m .lengths) (fed e .lent .lengths) (λ (n : Entry). n .samples) (fed e .entries) (drop (a .packets) (m .lengths)) (fits .lengths) (is .lengths) in
       let z = places (a .packets) (m .kept) (fed e .lent .kept) (λ (n : Entry). n .kept) (fed e .entries) (drop (a .packets) (m .kept)) (fits .kept) (is .kept) in
+      let w = places (a .packets) (m .frames) (fed e .lent .frames) (λ (n : Entry). n .frames) (fed e .entries) (drop (a .packets) (m .frames)) (fits .frames) (is .frames) in
       let few = fits .few in
       let i : e ≡ next .bytes = cc in
       let j : a .pages + 1 ≡ next .pages = cc in
       let k : a .packets + t .counts .packets ≡ next .packets = cc in
       let l : whole (a .packets) m (fed e .lent) ≡ n = cc in
       rw (← i, ← j, ← k, ← l, is .packets)
-      (record { fits = record { bytes = there .within; few = omega (arith, there .after); ends = x; lengths = y; kept = z }; moves = there .after; page = refl })
+      (record { fits = record { bytes = there .within; few = omega (arith, there .after); ends = x; lengths = y; kept = z; frames = w }; moves = there .after; page = refl })
 
   pub turn-onward : {next : Reached} {n : Lent} → turn R b a m ≡ goes next n → Onward a b next n
   unfolding turn
@@ -94,6 +95,7 @@ module _ (R : Readings) (b : Bytes) (o : Octets b) (a : Reached) (m : Lent) (fit
             ends = stays (a .packets) (m .ends) (fed e .lent .ends) (fits .ends);
             lengths = stays (a .packets) (m .lengths) (fed e .lent .lengths) (fits .lengths);
             kept = stays (a .packets) (m .kept) (fed e .lent .kept) (fits .kept);
+            frames = stays (a .packets) (m .frames) (fed e .lent .frames) (fits .frames);
           })
 
       by : (x : Bool) (y : Option ℕ) → pick x (stops full m) (turnTo R b a m y) ≡ stops why n → Inside a b n

@@ -1,4 +1,4 @@
--- The pages of a buffer fed one by one, each with the parts of the three lists past the places already filled. A run stops at a
+-- The pages of a buffer fed one by one, each with the parts of the four lists past the places already filled. A run stops at a
 -- refusal, at a page that the buffer's end cuts, or where fewer than 255 places are left (RULES.md, 7, for each page). Assumes
 -- nothing.
 use Prim.Native.Nat.{ℕ, zero, suc, _+_, _-_, _≤_}
@@ -12,17 +12,18 @@ use Rattle.refusal.specs.Told.{Told, gives, refuses}
 use Rattle.page_end.specs.End.{endAt}
 use Rattle.stream.specs.Readings.{Readings}
 use Rattle.stream.specs.Feed.{Reader, Taken, Fed, feed}
-use Rattle.stream.specs.Lent.{Lent, shortLists}
+use Rattle.stream.specs.Lent.{Lent, lentOf, shortLists}
 
 -- ---- the lent memory
 
 -- fewer than 255 places are left where n are filled
 unfoldable pub isFull : ℕ → Lent → Bool
-isFull n m = shortLists (length (m .ends) - n) (length (m .lengths) - n) (length (m .kept) - n)
+isFull n m =
+    shortLists (length (m .ends) - n) (length (m .lengths) - n) (length (m .kept) - n) (length (m .frames) - n)
 
 -- the lists past the n places filled
 abbrev pub past : ℕ → Lent → Lent
-past n m = record { carry = m .carry; ends = drop n (m .ends); lengths = drop n (m .lengths); kept = drop n (m .kept) }
+past n m = lentOf (m .carry) (drop n (m .ends)) (drop n (m .lengths)) (drop n (m .kept)) (drop n (m .frames))
 
 -- the whole lists again, e being what a feeding made of those parts
 abbrev pub whole : ℕ → Lent → Lent → Lent
@@ -31,6 +32,7 @@ whole n m e = record {
   ends = take n (m .ends) ++ e .ends;
   lengths = take n (m .lengths) ++ e .lengths;
   kept = take n (m .kept) ++ e .kept;
+  frames = take n (m .frames) ++ e .frames;
 }
 
 -- ---- one page
@@ -102,3 +104,4 @@ pub record Inside (a : Reached) (b : Bytes) (m : Lent) : Type 0 where
   pub ends : a .packets ≤ length (m .ends)
   pub lengths : a .packets ≤ length (m .lengths)
   pub kept : a .packets ≤ length (m .kept)
+  pub frames : a .packets ≤ length (m .frames)

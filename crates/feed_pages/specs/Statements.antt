@@ -41,6 +41,7 @@ pub record RunIs (R : Readings) (r : Reader) (m : Lent) (b : Bytes) (e : Ended) 
   pub ends : take (e .reached .packets) (e .lent .ends) ≡ map (λ (n : Entry). n .end) (entriesOf (stream R r F))
   pub lengths : take (e .reached .packets) (e .lent .lengths) ≡ map (λ (n : Entry). n .samples) (entriesOf (stream R r F))
   pub kept : take (e .reached .packets) (e .lent .kept) ≡ map (λ (n : Entry). n .kept) (entriesOf (stream R r F))
+  pub frames : take (e .reached .packets) (e .lent .frames) ≡ map (λ (n : Entry). n .frames) (entriesOf (stream R r F))
   pub numbers : numbersOf R r F ≡ replicate (e .reached .pages) none ++ lastNumber (e .why)
   pub whenCut : e .why ≡ cut → endAt b (e .reached .bytes) ≡ none
   pub whenFull : e .why ≡ full → isFull (e .reached .packets) (e .lent) ≡ true

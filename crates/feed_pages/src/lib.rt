@@ -51,16 +51,22 @@ fn feed_next(
     ends: &mut [u64],
     lengths: &mut [u64],
     kept: &mut [u64],
+    frames: &mut [u64],
 ) -> Turn
-    requires { ⌜ Inside (reached p) (now buffer) (lentOf (now carry) (now ends) (now lengths) (now kept)) ⌝ }
-    ensures { λ r. ⌜ toldTurn r (atExit carry ends lengths kept)
+    requires { ⌜ Inside (reached p) (now buffer) (lentOf (now carry) (now ends) (now lengths) (now kept) (now frames)) ⌝ }
+    ensures { λ r. ⌜ toldTurn r (atExit carry ends lengths kept frames)
         ≡ turnBy (readings (pageSliced (entryIn (now (tables .entry))))) (now (buffer .entry))
-        (reached p) (atEntry carry ends lengths kept) ⌝ }
+        (reached p) (atEntry carry ends lengths kept frames) ⌝ }
 {
     let at = p.bytes;
     let n = p.packets;
     let reader = p.reader;
-    if feed_memory::are_lists_short(ends.len() - n, lengths.len() - n, kept.len() - n) {
+    if feed_memory::are_lists_short(
+        ends.len() - n,
+        lengths.len() - n,
+        kept.len() - n,
+        frames.len() - n,
+    ) {
         return Turn::Stops(Stop::Full);
     }
     match page_end::end_at(buffer, at) {
@@ -73,6 +79,7 @@ fn feed_next(
             &mut ends[n..],
             &mut lengths[n..],
             &mut kept[n..],
+            &mut frames[n..],
         ) {
             Fed::Accepted(next, counts) => Turn::Goes(Progress {
                 reader: next,
@@ -94,10 +101,11 @@ fn run(
     ends: &mut [u64],
     lengths: &mut [u64],
     kept: &mut [u64],
+    frames: &mut [u64],
 ) -> PagesFed
-    ensures { λ r. ⌜ toldRun r (atExit carry ends lengths kept)
+    ensures { λ r. ⌜ toldRun r (atExit carry ends lengths kept frames)
         ≡ feedPages (readings (pageSliced (entryIn (now (tables .entry))))) (knownAs reader)
-        (atEntry carry ends lengths kept) (now (buffer .entry)) ⌝ }
+        (atEntry carry ends lengths kept frames) (now (buffer .entry)) ⌝ }
 {
     let mut progress = Progress {
         reader,
@@ -106,14 +114,14 @@ fn run(
         packets: 0,
     };
     loop {
-        match feed_next(tables, progress, buffer, carry, ends, lengths, kept) {
+        match feed_next(tables, progress, buffer, carry, ends, lengths, kept, frames) {
             Turn::Goes(next) => progress = next,
             Turn::Stops(stop) => return PagesFed { progress, stop },
         }
     }
 }
 
-// Feeds the pages of a buffer one by one, each with the parts of the three lists past the places already filled, as
+// Feeds the pages of a buffer one by one, each with the parts of the four lists past the places already filled, as
 // `reader::feed` would. It stops at a refusal, at a page that the buffer's end cuts, or where fewer than 255 places are left.
 // It tells how far it came and why it stopped. The page that is refused leaves the lists as they were, and the carry buffer
 // as `reader::feed` leaves it.
@@ -126,10 +134,11 @@ pub fn feed_pages(
     ends: &mut [u64],
     lengths: &mut [u64],
     kept: &mut [u64],
+    frames: &mut [u64],
 ) -> PagesFed
-    ensures { λ r. ⌜ toldRun r (atExit carry ends lengths kept)
-        ≡ feedPages (readings pageCrc) (knownAs reader) (atEntry carry ends lengths kept) (now (buffer .entry)) ⌝ }
+    ensures { λ r. ⌜ toldRun r (atExit carry ends lengths kept frames)
+        ≡ feedPages (readings pageCrc) (knownAs reader) (atEntry carry ends lengths kept frames) (now (buffer .entry)) ⌝ }
 {
     let tables = page_crc_tables::table::tables();
-    run(&tables, reader, buffer, carry, ends, lengths, kept)
+    run(&tables, reader, buffer, carry, ends, lengths, kept, frames)
 }

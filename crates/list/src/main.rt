@@ -1,5 +1,5 @@
-// The listing of an Ogg Opus recording: standard input to one line a packet, `end dur kept`, and a last line, the total or the
-// refusal that ended it. Pages are fed where they lie in the buffer. Places are cut to their buffers' lengths, so that no
+// The listing of an Ogg Opus recording: standard input to one line a packet, `end dur frames kept`, and a last line, the total
+// or the refusal that ended it. Pages are fed where they lie in the buffer. Places are cut to their buffers' lengths, so that no
 // function has to know what another left.
 use feed_pages::Stop;
 use limits::PACKET_MAX;
@@ -89,10 +89,19 @@ fn feed_more(
     ends: &mut [u64],
     lengths: &mut [u64],
     kept: &mut [u64],
+    frames: &mut [u64],
 ) -> Listing {
     let to = octets::least(w.to, buffer.len());
     let from = octets::least(w.from, to);
-    let fed = feed_pages::feed_pages(w.reader, &buffer[from..to], carry, ends, lengths, kept);
+    let fed = feed_pages::feed_pages(
+        w.reader,
+        &buffer[from..to],
+        carry,
+        ends,
+        lengths,
+        kept,
+        frames,
+    );
     let p = fed.progress;
     let stop = fed.stop;
     let reader = p.reader;
@@ -109,12 +118,20 @@ fn feed_more(
 }
 
 // The lines of packets, as many as the output has room for; where it has no more, it is written and emptied.
-fn put_lines(w: Listing, ends: &[u64], lengths: &[u64], kept: &[u64], out: &mut [u8]) -> Step {
+fn put_lines(
+    w: Listing,
+    ends: &[u64],
+    lengths: &[u64],
+    kept: &[u64],
+    frames: &[u64],
+    out: &mut [u8],
+) -> Step {
     let put = list_entries::put_entries(
         out,
         w.filled,
         part(ends, w.listed, w.packets),
         part(lengths, w.listed, w.packets),
+        part(frames, w.listed, w.packets),
         part(kept, w.listed, w.packets),
     );
     let listed = std::num::wrapping_add_usize(w.listed, put.count);
@@ -181,14 +198,15 @@ fn turn(
     ends: &mut [u64],
     lengths: &mut [u64],
     kept: &mut [u64],
+    frames: &mut [u64],
     out: &mut [u8],
 ) -> Step {
     if w.listed < w.packets {
-        return put_lines(w, ends, lengths, kept, out);
+        return put_lines(w, ends, lengths, kept, frames, out);
     }
     let stop = w.stop;
     match stop {
-        Stop::Full => Step::Goes(feed_more(w, buffer, carry, ends, lengths, kept)),
+        Stop::Full => Step::Goes(feed_more(w, buffer, carry, ends, lengths, kept, frames)),
         Stop::Cut => read_on(w, buffer, out),
         Stop::Refused(why) => {
             end_with_refusal(w, why, out);
@@ -205,12 +223,13 @@ fn run(
     ends: &mut [u64],
     lengths: &mut [u64],
     kept: &mut [u64],
+    frames: &mut [u64],
     out: &mut [u8],
 ) {
     let mut w = start;
     let mut turns = u64::MAX;
     while turns > 0 {
-        match turn(w, buffer, carry, ends, lengths, kept, out) {
+        match turn(w, buffer, carry, ends, lengths, kept, frames, out) {
             Step::Goes(next) => w = next,
             Step::Ends => return,
         }
@@ -224,6 +243,7 @@ fn main() {
     let mut ends = [0u64; 1024];
     let mut lengths = [0u64; 1024];
     let mut kept = [0u64; 1024];
+    let mut frames = [0u64; 1024];
     let mut out = [0u8; 131072];
     let filled = list_lines::put_first(&mut out, 0);
     let start = Listing {
@@ -243,6 +263,7 @@ fn main() {
         &mut ends,
         &mut lengths,
         &mut kept,
+        &mut frames,
         &mut out,
     );
 }

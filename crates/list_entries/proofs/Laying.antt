@@ -16,7 +16,7 @@ use Rattle.text_decimal.specs.Digits.{lowest}
 use Rattle.text_decimal.proofs.Decimal.{decimal-fours, length-lowest}
 use Rattle.list_lines.specs.Lines.{entryLine}
 use Rattle.list_entries.specs.declared.Repeat.{Repeat}
-use Rattle.list_entries.specs.Code.{tailLine, Again}
+use Rattle.list_entries.specs.Code.{tailLine, tailOf, Again}
 
 -- a copy over another one that is no longer
 covered : (d : Bytes) (at : ℕ) (a s : Bytes) → length a ≤ length s → at + length s ≤ length d → copied (copied d at a) at s ≡ copied d at s
@@ -49,13 +49,13 @@ over d at a s i h k fits =
 
 -- ---- a line of the bytes that are kept
 
-pub line-parts : (end samples kept : ℕ) → entryLine end samples kept ≡ decimal end ++ tailLine samples kept
+pub line-parts : (end samples frames kept : ℕ) → entryLine end samples frames kept ≡ decimal end ++ tailLine samples frames kept
 unfolding entryLine tailLine
-line-parts end samples kept = simp append-assoc
+line-parts end samples frames kept = simp append-assoc
 
 module _ {d : Bytes} {at end : ℕ} {c : Repeat} (a : Again d at c end) where
   abbrev tail : Bytes
-  tail = tailLine (c .samples) (c .kept)
+  tail = tailOf c
 
   size-upper : length (decimal (c .base / 10000)) ≡ c .digits
   size-upper = ap length (sym (a .has .upper)) ∙ length-take-le (c .digits) (octets 8 (c .upper)) (omega (arith, length-octets 8 (c .upper), a .has .eight))
@@ -104,8 +104,8 @@ module _ {d : Bytes} {at end : ℕ} {c : Repeat} (a : Again d at c end) where
 
   pub laid-again : {x y z o : Bytes} → x ≡ copied d at (octets 8 (c .upper)) → y ≡ copied x (at + c .digits) (lowest 4 (end - c .base))
       → z ≡ copied y (at + c .digits + 4) (octets 8 (c .first)) → o ≡ copied z (at + c .digits + 4 + c .bytes - 8) (octets 8 (c .last))
-      → Laid d at (entryLine end (c .samples) (c .kept)) (at + c .digits + 4 + c .bytes) o
-  laid-again hx hy hz ho = rw (line-parts end (c .samples) (c .kept)) (record {
+      → Laid d at (entryLine end (c .samples) (c .frames) (c .kept)) (at + c .digits + 4 + c .bytes) o
+  laid-again hx hy hz ho = rw (line-parts end (c .samples) (c .frames) (c .kept)) (record {
     place = omega (arith, length-append (decimal end) tail, size-stamp, a .has .long);
     output = tailed (stamped hx hy) hz ho;
   })

@@ -19,9 +19,10 @@ use Rattle.list_entries.specs.declared.Repeat.{Repeat}
 use Rattle.list_entries.specs.Code.{tailLine, Has, Stands}
 use Rattle.list_entries.proofs.Laying.{line-parts}
 
-pub length-tail : (samples kept : ℕ) → length (tailLine samples kept) ≡ length (decimal samples) + length (decimal kept) + 3
+pub length-tail : (samples frames kept : ℕ)
+    → length (tailLine samples frames kept) ≡ length (decimal samples) + length (decimal frames) + length (decimal kept) + 4
 unfolding tailLine
-length-tail samples kept = simp length-append (omega arith)
+length-tail samples frames kept = simp length-append (omega arith)
 
 -- 1,000 has four digits
 at-least-four : (x : ℕ) → 1000 ≤ x → 4 ≤ length (decimal x)
@@ -44,13 +45,13 @@ eight-at out line at i o fits same h =
     ∙ sym (take-within 8 i (length line) (drop at out) h)
     ∙ ap (λ (l : Bytes). take 8 (drop i l)) same
 
-module _ {out : Bytes} {at next end samples kept : ℕ} (s : Stands out at next end samples kept) (o : Octets out)
-    (low : 10000000 ≤ end) (high : end < 1000000000000) {t : ℕ} (ht : t ≡ length (tailLine samples kept)) (least : 8 ≤ t) where
+module _ {out : Bytes} {at next : ℕ} (end samples frames kept : ℕ) (s : Stands out at next (entryLine end samples frames kept)) (o : Octets out)
+    (low : 10000000 ≤ end) (high : end < 1000000000000) {t : ℕ} (ht : t ≡ length (tailLine samples frames kept)) (least : 8 ≤ t) where
   abbrev line : Bytes
-  line = entryLine end samples kept
+  line = entryLine end samples frames kept
 
   abbrev tail : Bytes
-  tail = tailLine samples kept
+  tail = tailLine samples frames kept
 
   abbrev upper : Bytes
   upper = decimal (end / 10000)
@@ -59,7 +60,7 @@ module _ {out : Bytes} {at next end samples kept : ℕ} (s : Stands out at next 
   fours = lowest 4 (end % 10000)
 
   parts : line ≡ (upper ++ fours) ++ tail
-  parts = line-parts end samples kept ∙ ap (λ (b : Bytes). b ++ tail) (decimal-fours end (omega arith))
+  parts = line-parts end samples frames kept ∙ ap (λ (b : Bytes). b ++ tail) (decimal-fours end (omega arith))
 
   pub few : (4 ≤ length upper) × (length upper ≤ 8)
   few = (at-least-four (end / 10000) (omega arith), length-most (end / 10000) 7 (omega arith))
@@ -90,9 +91,9 @@ module _ {out : Bytes} {at next end samples kept : ℕ} (s : Stands out at next 
   read-from : (place i : ℕ) → place ≡ at + (length upper + 4 + i) → i + 8 ≤ t → octets 8 (number 8 out place) ≡ take 8 (drop i tail)
   read-from place i e h = rw e (eight (length upper + 4 + i) (omega arith) ∙ ap (take 8) (behind i))
 
-  pub has : (c : Repeat) → t ≤ 16 → c .base ≡ end / 10000 * 10000 → c .samples ≡ samples → c .kept ≡ kept → c .digits ≡ next - t - 4 - at
+  pub has : (c : Repeat) → t ≤ 16 → c .base ≡ end / 10000 * 10000 → c .samples ≡ samples → c .frames ≡ frames → c .kept ≡ kept → c .digits ≡ next - t - 4 - at
       → c .bytes ≡ t → c .upper ≡ number 8 out at → c .first ≡ number 8 out (next - t) → c .last ≡ number 8 out (next - 8) → Has c
-  has c most hb hs hk hd hl hu hf hz =
+  has c most hb hs hr hk hd hl hu hf hz =
       let digits : c .digits ≡ length upper = omega (arith, whole) in
       let base : c .base / 10000 ≡ end / 10000 = omega arith in
       let short : length (drop (t - 8) tail) ≤ 8 = omega (arith, length-drop (t - 8) tail) in
@@ -102,9 +103,9 @@ module _ {out : Bytes} {at next end samples kept : ℕ} (s : Stands out at next 
         four = omega (arith, few);
         eight = omega (arith, few);
         upper = rw (digits, hu, base) upper-read;
-        long = rw (hs, hk) (hl ∙ ht);
+        long = rw (hs, hr, hk) (hl ∙ ht);
         least = omega arith;
         most = omega arith;
-        first = rw (hs, hk, hf) (read-from (next - t) 0 (omega (arith, whole)) (omega arith));
-        last = rw (hs, hk, hl, hz) (read-from (next - 8) (t - 8) (omega (arith, whole)) (omega arith) ∙ take-all 8 (drop (t - 8) tail) short);
+        first = rw (hs, hr, hk, hf) (read-from (next - t) 0 (omega (arith, whole)) (omega arith));
+        last = rw (hs, hr, hk, hl, hz) (read-from (next - 8) (t - 8) (omega (arith, whole)) (omega arith) ∙ take-all 8 (drop (t - 8) tail) short);
       }

@@ -10,13 +10,16 @@ use Rattle.octets.specs.Numbers.{octets}
 use Rattle.text_put.specs.Writing.{Laid}
 use Rattle.text_put.specs.Marks.{space, lineFeed}
 use Rattle.text_decimal.specs.Decimal.{decimal}
-use Rattle.list_lines.specs.Lines.{entryLine, longest}
+use Rattle.list_lines.specs.Lines.{longest}
 use Rattle.list_entries.specs.declared.Repeat.{Repeat}
 use Rattle.list_entries.specs.declared.Next.{Next}
 
 -- what follows the end stamp
-unfoldable pub tailLine : ℕ → ℕ → Bytes
-tailLine samples kept = space ++ decimal samples ++ space ++ decimal kept ++ lineFeed
+unfoldable pub tailLine : ℕ → ℕ → ℕ → Bytes
+tailLine samples frames kept = space ++ decimal samples ++ space ++ decimal frames ++ space ++ decimal kept ++ lineFeed
+
+abbrev pub tailOf : Repeat → Bytes
+tailOf c = tailLine (c .samples) (c .frames) (c .kept)
 
 -- the bytes that c has: the digits of the stamps from `base` on but the last four, and what follows a stamp
 pub record Has (c : Repeat) : Type 0 where
@@ -25,20 +28,21 @@ pub record Has (c : Repeat) : Type 0 where
   pub four : 4 ≤ c .digits
   pub eight : c .digits ≤ 8
   pub upper : take (c .digits) (octets 8 (c .upper)) ≡ decimal (c .base / 10000)
-  pub long : c .bytes ≡ length (tailLine (c .samples) (c .kept))
+  pub long : c .bytes ≡ length (tailOf c)
   pub least : 8 ≤ c .bytes
   pub most : c .bytes ≤ 16
-  pub first : octets 8 (c .first) ≡ take 8 (tailLine (c .samples) (c .kept))
-  pub last : octets 8 (c .last) ≡ drop (c .bytes - 8) (tailLine (c .samples) (c .kept))
+  pub first : octets 8 (c .first) ≡ take 8 (tailOf c)
+  pub last : octets 8 (c .last) ≡ drop (c .bytes - 8) (tailOf c)
 
 -- no digits: nothing is kept
 abbrev pub Sound : Repeat → Type 0
 Sound c = 1 ≤ c .digits → Has c
 
 -- the line of this packet is made of the bytes that c has, and its last four digits
-abbrev pub isAgain : Repeat → ℕ → ℕ → ℕ → Bool
-isAgain c end samples kept =
-    ltb 0 (c .digits) && (leb (c .base) end && (ltb (end - c .base) 10000 && (eqb samples (c .samples) && eqb kept (c .kept))))
+abbrev pub isAgain : Repeat → ℕ → ℕ → ℕ → ℕ → Bool
+isAgain c end samples frames kept =
+    ltb 0 (c .digits) && (leb (c .base) end && (ltb (end - c .base) 10000
+    && (eqb samples (c .samples) && (eqb frames (c .frames) && eqb kept (c .kept)))))
 
 -- there is room for it
 pub record Again (out : Bytes) (at : ℕ) (c : Repeat) (end : ℕ) : Type 0 where
@@ -47,16 +51,11 @@ pub record Again (out : Bytes) (at : ℕ) (c : Repeat) (end : ℕ) : Type 0 wher
   pub above : c .base ≤ end
   pub near : end - c .base < 10000
 
--- there is room for any line, and c has what it tells
-pub record Ready (out : Bytes) (at : ℕ) (c : Repeat) : Type 0 where
-  pub room : at + longest ≤ length out
-  pub sound : Sound c
-
--- the line of a packet is at a place of the buffer
-pub record Stands (out : Bytes) (at next end samples kept : ℕ) : Type 0 where
-  pub place : next ≡ at + length (entryLine end samples kept)
+-- a line s lies from place `at` of the buffer to `next`
+pub record Stands (out : Bytes) (at next : ℕ) (s : Bytes) : Type 0 where
+  pub place : next ≡ at + length s
   pub inside : next ≤ length out
-  pub line : take (length (entryLine end samples kept)) (drop at out) ≡ entryLine end samples kept
+  pub line : take (length s) (drop at out) ≡ s
 
 -- a line s is laid, and bytes are kept of it
 pub record Lays (d : Bytes) (at : ℕ) (s : Bytes) (r : Next) (out : Bytes) : Type 0 where

@@ -20,14 +20,16 @@ noLines = record { text = []; count = 0 }
 abbrev pub before : Bytes → Lined → Lined
 before line l = record { text = line ++ l .text; count = suc (l .count) }
 
--- the lines of packets, by their end stamps, lengths and kept counts, as long as `room` has room for any line; the shortest
--- of the three lists tells how many packets there are
-unfoldable pub linesIn : ℕ → List ℕ → List ℕ → List ℕ → Lined
-linesIn room [] lengths kept = noLines
-linesIn room (e ∷ ends) [] kept = noLines
-linesIn room (e ∷ ends) (s ∷ lengths) [] = noLines
-linesIn room (e ∷ ends) (s ∷ lengths) (k ∷ kept) =
-    pick (ltb room longest) noLines (before (entryLine e s k) (linesIn (room - length (entryLine e s k)) ends lengths kept))
+-- the lines of packets, by their end stamps, lengths, frame counts and kept counts, as long as `room` has room for any line;
+-- the shortest of the four lists tells how many packets there are
+unfoldable pub linesIn : ℕ → List ℕ → List ℕ → List ℕ → List ℕ → Lined
+linesIn room [] lengths frames kept = noLines
+linesIn room (e ∷ ends) [] frames kept = noLines
+linesIn room (e ∷ ends) (s ∷ lengths) [] kept = noLines
+linesIn room (e ∷ ends) (s ∷ lengths) (f ∷ frames) [] = noLines
+linesIn room (e ∷ ends) (s ∷ lengths) (f ∷ frames) (k ∷ kept) =
+    pick (ltb room longest) noLines
+    (before (entryLine e s f k) (linesIn (room - length (entryLine e s f k)) ends lengths frames kept))
 
 -- the answer r, and the buffer from d at entry to `out` at exit: the lines from place `at` on, and the rest of d
 pub record PutLines (d : Bytes) (at : ℕ) (l : Lined) (r : Listed) (out : Bytes) : Type 0 where

@@ -17,29 +17,35 @@ pub length-pair : (s t : Bytes) (x y : ℕ)
     → length ((s ++ decimal x) ++ (t ++ decimal y)) ≡ length s + length (decimal x) + length t + length (decimal y)
 length-pair s t x y = simp length-append (omega arith)
 
-module _ (end samples kept : ℕ) where
-  pub length-entry : length (entryLine end samples kept) ≡ length (decimal end) + length (decimal samples) + length (decimal kept) + 3
+module _ (end samples frames kept : ℕ) where
+  abbrev line : Bytes
+  line = entryLine end samples frames kept
+
+  pub length-entry : length line ≡ length (decimal end) + length (decimal samples) + length (decimal frames) + length (decimal kept) + 4
   unfolding entryLine
   length-entry = simp length-append (omega arith)
 
-  pub entry-most : end < 2 ^ 64 → samples < 2 ^ 64 → kept < 2 ^ 64 → length (entryLine end samples kept) ≤ longest
-  entry-most h k l = omega (arith, length-entry, length-u64 end h, length-u64 samples k, length-u64 kept l)
+  pub entry-most : end < 2 ^ 64 → samples < 2 ^ 64 → frames < 2 ^ 64 → kept < 2 ^ 64 → length line ≤ longest
+  entry-most he hs hf hk = omega (arith, length-entry, length-u64 end he, length-u64 samples hs, length-u64 frames hf, length-u64 kept hk)
 
-  entry-parts : entryLine end samples kept ≡ ((decimal end ++ space) ++ (decimal samples ++ space)) ++ (decimal kept ++ lineFeed)
+  entry-parts : line ≡ (((decimal end ++ space) ++ (decimal samples ++ space)) ++ (decimal frames ++ space)) ++ (decimal kept ++ lineFeed)
   unfolding entryLine
   entry-parts = simp append-assoc
 
-  pub laid-entry : {d x y z : Bytes} {at a b r : ℕ} → Put d at (decimal end ++ space) a x → Put x a (decimal samples ++ space) b y
-      → Put y b (decimal kept ++ lineFeed) r z → at + length (entryLine end samples kept) ≤ length d → Laid d at (entryLine end samples kept) r z
-  laid-entry e f g room =
+  pub laid-entry : {d w x y z : Bytes} {at a b c r : ℕ} → Put d at (decimal end ++ space) a w → Put w a (decimal samples ++ space) b x
+      → Put x b (decimal frames ++ space) c y → Put y c (decimal kept ++ lineFeed) r z → at + length line ≤ length d → Laid d at line r z
+  laid-entry e f g h room =
       let he = length-ended end 32 in
       let hf = length-ended samples 32 in
-      let hg = length-ended kept 10 in
+      let hg = length-ended frames 32 in
+      let hh = length-ended kept 10 in
       let both = length-append (decimal end ++ space) (decimal samples ++ space) in
+      let three = length-append ((decimal end ++ space) ++ (decimal samples ++ space)) (decimal frames ++ space) in
       let size = length-entry in
       let one = laid-put (omega arith) e in
       let two = laid-then one (omega (arith, one .place)) f in
-      rw entry-parts (laid-then two (omega (arith, two .place)) g)
+      let most = laid-then two (omega (arith, two .place)) g in
+      rw entry-parts (laid-then most (omega (arith, most .place)) h)
 
 -- nine parts, as four and four and one
 grouped : (a b c d e f g h i : Bytes)

@@ -6,17 +6,19 @@ use Rattle.octets.specs.Octets.{Bytes}
 use Rattle.text_put.specs.Marks.{space, lineFeed}
 use Rattle.text_decimal.specs.Decimal.{decimal}
 
--- "end dur kept" and a line feed
+-- "end dur frames kept" and a line feed
 unfoldable pub firstLine : Bytes
-firstLine = 101 ∷ 110 ∷ 100 ∷ 32 ∷ 100 ∷ 117 ∷ 114 ∷ 32 ∷ 107 ∷ 101 ∷ 112 ∷ 116 ∷ 10 ∷ []
+firstLine =
+    101 ∷ 110 ∷ 100 ∷ 32 ∷ 100 ∷ 117 ∷ 114 ∷ 32 ∷ 102 ∷ 114 ∷ 97 ∷ 109 ∷ 101 ∷ 115 ∷ 32 ∷ 107 ∷ 101 ∷ 112 ∷ 116 ∷ 10 ∷ []
 
--- one packet: its end stamp, its length and how many of its samples are kept
-unfoldable pub entryLine : ℕ → ℕ → ℕ → Bytes
-entryLine end samples kept = decimal end ++ space ++ decimal samples ++ space ++ decimal kept ++ lineFeed
+-- one packet: its end stamp, its length, how many frames it has and how many of its samples are kept
+unfoldable pub entryLine : ℕ → ℕ → ℕ → ℕ → Bytes
+entryLine end samples frames kept =
+    decimal end ++ space ++ decimal samples ++ space ++ decimal frames ++ space ++ decimal kept ++ lineFeed
 
--- no line of a packet is longer: three numbers of 20 digits, two spaces and a line feed
+-- no line of a packet is longer: four numbers of 20 digits, three spaces and a line feed
 abbrev pub longest : ℕ
-longest = 63
+longest = 84
 
 -- "total kept="
 abbrev pub totalKept : Bytes

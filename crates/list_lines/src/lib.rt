@@ -8,8 +8,8 @@ ghost use lib.ListN.{length};
 ghost use Rattle.text_put.specs.Writing.{Put, Laid};
 ghost use Rattle.list_lines.specs.Lines.{firstLine, entryLine, totalLine, refusedLine, named, HasNamed, HasPair};
 
-// No line of a packet is longer: three numbers of 20 digits, two spaces and a line feed.
-pub const LONGEST: usize = 63;
+// No line of a packet is longer: four numbers of 20 digits, three spaces and a line feed.
+pub const LONGEST: usize = 84;
 
 // A name, and the digits of a number after it.
 fn put_named(out: &mut [u8], at: usize, name: &[u8], x: u64) -> usize
@@ -32,8 +32,8 @@ fn put_pair(out: &mut [u8], at: usize, first: &[u8], x: u64, second: &[u8], y: u
 
 // Whether an entry's line passes the end of the buffer. Its digits are counted only where fewer bytes are left than the
 // longest line has.
-fn lacks_entry(len: usize, at: usize, end: u64, samples: u64, kept: u64) -> bool
-    ensures { λ r. ⌜ r ≡ ltb len (at + length (entryLine end samples kept)) ⌝ }
+fn lacks_entry(len: usize, at: usize, end: u64, samples: u64, frames: u64, kept: u64) -> bool
+    ensures { λ r. ⌜ r ≡ ltb len (at + length (entryLine end samples frames kept)) ⌝ }
 {
     if !octets::is_short(len, at, LONGEST) {
         return false;
@@ -43,8 +43,9 @@ fn lacks_entry(len: usize, at: usize, end: u64, samples: u64, kept: u64) -> bool
         at,
         text_decimal::digits_of(end)
             + text_decimal::digits_of(samples)
+            + text_decimal::digits_of(frames)
             + text_decimal::digits_of(kept)
-            + 3,
+            + 4,
     )
 }
 
@@ -72,28 +73,30 @@ fn lacks_refused(len: usize, at: usize, number: u64, page: u64) -> bool
     )
 }
 
-// The line above all entries: "end dur kept" (RULES.md, 11). Where it does not fit, nothing is put.
-// Example: `put_first(out, 0)` answers 13, where `out` has 13 bytes or more.
+// The line above all entries: "end dur frames kept" (RULES.md, 11). Where it does not fit, nothing is put.
+// Example: `put_first(out, 0)` answers 20, where `out` has 20 bytes or more.
 pub fn put_first(out: &mut [u8], at: usize) -> usize
     ensures { λ r. ⌜ Put (now (out .entry)) at firstLine r (now (out .exit)) ⌝ }
 {
-    if octets::is_short(out.len(), at, 13) {
+    if octets::is_short(out.len(), at, 20) {
         return at;
     }
-    octets::copy_at(out, at, b"end dur kept\n");
-    at + 13
+    octets::copy_at(out, at, b"end dur frames kept\n");
+    at + 20
 }
 
-// The line of a packet: its end stamp, its length and how many of its samples are kept. Example: "960 960 648".
-pub fn put_entry(out: &mut [u8], at: usize, end: u64, samples: u64, kept: u64) -> usize
-    ensures { λ r. ⌜ Put (now (out .entry)) at (entryLine end samples kept) r (now (out .exit)) ⌝ }
+// The line of a packet: its end stamp, its length, how many frames it has and how many of its samples are kept. Where it
+// does not fit, nothing is put. Example: `put_entry(out, 0, 960, 960, 1, 648)` puts "960 960 1 648".
+pub fn put_entry(out: &mut [u8], at: usize, end: u64, samples: u64, frames: u64, kept: u64) -> usize
+    ensures { λ r. ⌜ Put (now (out .entry)) at (entryLine end samples frames kept) r (now (out .exit)) ⌝ }
 {
-    if lacks_entry(out.len(), at, end, samples, kept) {
+    if lacks_entry(out.len(), at, end, samples, frames, kept) {
         return at;
     }
     let second = text_decimal::put_ended(out, at, end, b' ');
     let third = text_decimal::put_ended(out, second, samples, b' ');
-    text_decimal::put_ended(out, third, kept, b'\n')
+    let fourth = text_decimal::put_ended(out, third, frames, b' ');
+    text_decimal::put_ended(out, fourth, kept, b'\n')
 }
 
 // The last line of a listing that was not refused. Example: "total kept=648 skipped=312 trimmed=0 hole=0".

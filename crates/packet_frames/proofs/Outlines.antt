@@ -1,5 +1,5 @@
--- A packet by the number of its frames: the rule that it breaks does not matter, and padding longer than the packet makes it
--- illegal. Assumes nothing.
+-- A packet by its outline: the rule that it breaks does not matter, and padding longer than the packet makes it illegal.
+-- Assumes nothing.
 use mathlib.Core.Path.{_≡_, refl}
 use mathlib.Core.Bool.{Bool, true, false, _||_}
 use mathlib.Core.List.{List, [], _∷_, _++_}

@@ -1,18 +1,20 @@
--- What the functions answer, in the code's words: a number with the place that follows it, and how the frames lie.
--- Assumes nothing.
+-- What the functions answer, in the code's words: a number with the place that follows it, how the frames lie, and how many
+-- they are. Assumes nothing.
 use Prim.Native.Nat.{ℕ, _+_, _≤_}
 use mathlib.Core.Path.{_≡_}
 use mathlib.Core.Bool.{Bool}
 use mathlib.Core.List.{List}
-use lib.Dec.{ltb}
+use lib.Dec.{ltb, eqb}
 use lib.ListN.{length, getD, drop}
 use Rattle.octets.specs.Pick.{pick}
 use Rattle.octets.specs.Octets.{Bytes, total}
 use Rattle.packet_frames.specs.declared.Found.{Found}
 use Rattle.packet_frames.specs.declared.Found.the-variants.{Missing, Value}
 use Rattle.packet_frames.specs.declared.Layout.{Layout}
-use Rattle.packet_frames.specs.declared.Layout.the-variants.{Illegal as IllegalLayout, Frames}
-use Rattle.packet_frames.specs.Frames.{Read, short, value, R1, paddingFrom}
+use Rattle.packet_frames.specs.declared.Layout.the-variants.{Illegal as IllegalLayout, Frames as FramesLie}
+use Rattle.packet_frames.specs.declared.Framed.{Framed}
+use Rattle.packet_frames.specs.declared.Framed.the-variants.{Illegal, Frames}
+use Rattle.packet_frames.specs.Frames.{Read, short, value, R1, paddingFrom, isSilent}
 use Rattle.packet_frames.specs.Packet.{Shape, broken, shape, countedShape, shapeOf}
 use Rattle.packet_frames.specs.Packet.{Parsed, breaks, frames, parseShape}
 
@@ -70,7 +72,7 @@ plainIn s = plainOf (length s) (shapeOf s)
 
 abbrev pub toldLayout : Bytes → Layout → Plain
 toldLayout s IllegalLayout = none
-toldLayout s (Frames m vary p at) = plain m vary p (drop at s)
+toldLayout s (FramesLie m vary p at) = plain m vary p (drop at s)
 
 -- m frames, p bytes of padding, and the place `at` in s of what follows
 pub record FramesIn (s : Bytes) (m p at : ℕ) : Type 0 where
@@ -81,7 +83,7 @@ pub record FramesIn (s : Bytes) (m p at : ℕ) : Type 0 where
 
 abbrev pub Sound : Bytes → Layout → Type 0
 Sound s IllegalLayout = Unit {0}
-Sound s (Frames m vary p at) = FramesIn s m p at
+Sound s (FramesLie m vary p at) = FramesIn s m p at
 
 -- the answer r tells how the frames of s lie
 pub record LayoutIs (s : Bytes) (stand : Plain) (r : Layout) : Type 0 where
@@ -99,16 +101,35 @@ pub record SomeFramesAt (s : Bytes) (at m : ℕ) : Type 0 where
   pub few : m ≤ 63
   pub inside : at ≤ length s
 
--- a packet by the number of its frames
-abbrev pub outline : Parsed → Read ℕ
-outline (breaks rule) = short
-outline (frames sizes s) = value (length sizes) s
+-- a packet by the number of its frames and whether all of them are empty
+pub record Outline : Type 0 where
+  pub count : ℕ
+  pub silent : Bool
 
--- the frames of a layout by their number; the rule that a packet breaks is not told
-abbrev pub framesIn : Bool → Plain → Read ℕ
+abbrev pub outline : Parsed → Read Outline
+outline (breaks rule) = short
+outline (frames sizes s) = value (record { count = length sizes; silent = isSilent sizes }) s
+
+-- the frames of a layout by their outline; the rule that a packet breaks is not told
+abbrev pub framesIn : Bool → Plain → Read Outline
 framesIn self none = short
 framesIn self (plain m vary p s) = outline (parseShape self (shape m vary p s R1))
 
 -- m frames of n bytes in all and p bytes of padding, in s
-abbrev pub placedCount : ℕ → ℕ → ℕ → Bytes → Read ℕ
-placedCount m n p s = pick (ltb (length s) (n + p)) short (value m (drop (n + p) s))
+abbrev pub placedIn : ℕ → ℕ → ℕ → Bytes → Read Outline
+placedIn m n p s = pick (ltb (length s) (n + p)) short (value (record { count = m; silent = eqb n 0 }) (drop (n + p) s))
+
+-- frames and the place after them, in s
+abbrev pub toldFramed : Bytes → Framed → Read Outline
+toldFramed s Illegal = short
+toldFramed s (Frames m empty next) = value (record { count = m; silent = empty }) (drop next s)
+
+-- there are at most 63 frames, as many as a count byte can tell, and the place after them is in s
+abbrev pub FramedIn : Bytes → Framed → Type 0
+FramedIn s Illegal = Unit {0}
+FramedIn s (Frames m empty next) = ValueIn s 63 m next
+
+-- the answer r tells the frames that were read of s
+pub record FramedIs (s : Bytes) (read : Read Outline) (r : Framed) : Type 0 where
+  pub told : toldFramed s r ≡ read
+  pub within : FramedIn s r

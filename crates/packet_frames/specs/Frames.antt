@@ -1,8 +1,9 @@
--- The lengths coded in an Opus packet, and the rules of RFC 6716 by their names (RFC 6716, 3.2 and 3.4; RULES.md, 6). Assumes
--- nothing.
+-- The lengths coded in an Opus packet, whether its frames are empty, and the rules of RFC 6716 by their names (RFC 6716, 3.2
+-- and 3.4; RULES.md, 6). Assumes nothing.
 use Prim.Native.Nat.{ℕ, zero, suc, _+_, _*_}
+use mathlib.Core.Bool.{Bool, true, _&&_}
 use mathlib.Core.List.{List, [], _∷_}
-use lib.Dec.{ltb}
+use lib.Dec.{ltb, eqb}
 use Rattle.octets.specs.Pick.{pick}
 use Rattle.octets.specs.Octets.{Bytes}
 
@@ -49,3 +50,8 @@ codedTimes (suc n) s = andLater (codedTimes n) (coded s)
 unfoldable pub paddingFrom : ℕ → Bytes → Read ℕ
 paddingFrom p [] = short
 paddingFrom p (v ∷ s) = pick (ltb v 255) (value (p + v) s) (paddingFrom (p + 254) s)
+
+-- every frame is empty, by the sizes of the frames: it has no bytes
+unfoldable pub isSilent : List ℕ → Bool
+isSilent [] = true
+isSilent (n ∷ ns) = eqb n 0 && isSilent ns

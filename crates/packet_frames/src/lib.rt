@@ -1,10 +1,10 @@
-// One Opus packet (RFC 6716, 3 and Appendix B): how its frames lie in it.
+// One Opus packet (RFC 6716, 3 and Appendix B): how its frames lie in it, how many they are, and whether all are empty.
 ghost use mathlib.Core.Bool.{true, false};
 ghost use lib.ListN.{length, drop};
 ghost use Rattle.packet_frames.specs.Frames.{frameMax, coded, codedTimes};
 ghost use Rattle.packet_frames.specs.Packet.{parse};
-ghost use Rattle.packet_frames.specs.Code.{FoundIs, LayoutIs, FramesAt, SomeFramesAt};
-ghost use Rattle.packet_frames.specs.Code.{summed, paddingIn, countedIn, plainIn, plain, placedCount, framesIn, outline};
+ghost use Rattle.packet_frames.specs.Code.{FoundIs, LayoutIs, FramedIs, FramesAt, SomeFramesAt};
+ghost use Rattle.packet_frames.specs.Code.{summed, paddingIn, countedIn, plainIn, plain, placedIn, framesIn, outline};
 
 // No frame is longer (RFC 6716, 3.4, R2).
 pub const FRAME_MAX: usize = 1275;
@@ -12,11 +12,18 @@ pub const FRAME_MAX: usize = 1275;
 // No packet has more samples, 120 ms (RFC 6716, 3.4, R5).
 const SAMPLES_MAX: usize = 5760;
 
-pub enum Found {
-    // there are too few bytes, or the packet is illegal
+enum Found {
+    // there are too few bytes
     Missing,
     // a number read at a place, and the place after it
     Value(usize, usize),
+}
+
+pub enum Framed {
+    // there are too few bytes, or the packet is illegal
+    Illegal,
+    // how many frames, whether all of them are empty, and the place after the packet
+    Frames(usize, bool, usize),
 }
 
 // How the frames of a packet lie in it.
@@ -157,80 +164,81 @@ fn layout_of(s: &[u8]) -> Layout
     }
 }
 
-// Frames of `sum` bytes and the padding after them, from `at` on: the place after them, if they fit.
-fn placed_frames(s: &[u8], at: usize, count: usize, sum: usize, padding: usize) -> Found
+// Frames of `sum` bytes and the padding after them, from `at` on, if they fit.
+fn placed_frames(s: &[u8], at: usize, count: usize, sum: usize, padding: usize) -> Framed
     requires { ⌜ FramesAt (now s) at count ⌝ }
-    ensures { λ r. ⌜ FoundIs (now (s .entry)) 63 (placedCount count sum padding (drop at (now (s .entry)))) r ⌝ }
+    ensures { λ r. ⌜ FramedIs (now (s .entry)) (placedIn count sum padding (drop at (now (s .entry)))) r ⌝ }
 {
     if octets::is_short(s.len() - at, padding, sum) {
-        return Found::Missing;
+        return Framed::Illegal;
     }
-    Found::Value(count, at + sum + padding)
+    Framed::Frames(count, sum == 0, at + sum + padding)
 }
 
 // Self-delimited: a coded length for each frame, or one for all.
-fn delimited_frames(s: &[u8], at: usize, count: usize, vary: bool, padding: usize) -> Found
+fn delimited_frames(s: &[u8], at: usize, count: usize, vary: bool, padding: usize) -> Framed
     requires { ⌜ FramesAt (now s) at count ⌝ }
-    ensures { λ r. ⌜ FoundIs (now (s .entry)) 63 (framesIn true (plain count vary padding (drop at (now (s .entry))))) r ⌝ }
+    ensures { λ r. ⌜ FramedIs (now (s .entry)) (framesIn true (plain count vary padding (drop at (now (s .entry))))) r ⌝ }
 {
     if vary {
         let Found::Value(sum, next) = coded_lengths(s, at, count) else {
-            return Found::Missing;
+            return Framed::Illegal;
         };
         return placed_frames(s, next, count, sum, padding);
     }
     let Found::Value(length, next) = coded_length(s, at) else {
-        return Found::Missing;
+        return Framed::Illegal;
     };
     placed_frames(s, next, count, count * length, padding)
 }
 
 // The last frame has what the others and the padding leave of the packet.
-fn varied_frames(s: &[u8], at: usize, count: usize, padding: usize) -> Found
+fn varied_frames(s: &[u8], at: usize, count: usize, padding: usize) -> Framed
     requires { ⌜ SomeFramesAt (now s) at count ⌝ }
-    ensures { λ r. ⌜ FoundIs (now (s .entry)) 63 (framesIn false (plain count true padding (drop at (now (s .entry))))) r ⌝ }
+    ensures { λ r. ⌜ FramedIs (now (s .entry)) (framesIn false (plain count true padding (drop at (now (s .entry))))) r ⌝ }
 {
     let Found::Value(sum, next) = coded_lengths(s, at, count - 1) else {
-        return Found::Missing;
+        return Framed::Illegal;
     };
     let room = s.len() - next;
     if octets::is_short(room, padding, sum) {
-        return Found::Missing;
+        return Framed::Illegal;
     }
     if room - padding - sum > FRAME_MAX {
-        return Found::Missing;
+        return Framed::Illegal;
     }
-    Found::Value(count, s.len())
+    Framed::Frames(count, room == padding, s.len())
 }
 
 // Equal frames share what the padding leaves of the packet.
-fn equal_frames(s: &[u8], at: usize, count: usize, padding: usize) -> Found
+fn equal_frames(s: &[u8], at: usize, count: usize, padding: usize) -> Framed
     requires { ⌜ SomeFramesAt (now s) at count ⌝ }
-    ensures { λ r. ⌜ FoundIs (now (s .entry)) 63 (framesIn false (plain count false padding (drop at (now (s .entry))))) r ⌝ }
+    ensures { λ r. ⌜ FramedIs (now (s .entry)) (framesIn false (plain count false padding (drop at (now (s .entry))))) r ⌝ }
 {
     let room = s.len() - at;
     if room < padding {
-        return Found::Missing;
+        return Framed::Illegal;
     }
     let bytes = room - padding;
     if bytes % count != 0 {
-        return Found::Missing;
+        return Framed::Illegal;
     }
     if bytes / count > FRAME_MAX {
-        return Found::Missing;
+        return Framed::Illegal;
     }
-    Found::Value(count, s.len())
+    Framed::Frames(count, bytes == 0, s.len())
 }
 
-// How many frames a packet has, and the place after it; `Missing` if it breaks one of the rules R1 to R7 (RULES.md, 6; RFC
-// 6716, 3.2, 3.4 and Appendix B). A self-delimited packet may end before the bytes do; any other takes all of them.
-// Example: `packet_frames(&[0x01, 0xaa, 0xbb], false)` is `Found::Value(2, 3)`, for two frames of one byte each.
-pub fn packet_frames(s: &[u8], delimited: bool) -> Found
-    ensures { λ r. ⌜ FoundIs (now (s .entry)) 63 (outline (parse delimited (now (s .entry)))) r ⌝ }
+// How many frames a packet has, whether all of them are empty, and the place after it; `Illegal` if it breaks one of the rules
+// R1 to R7 (RULES.md, 6; RFC 6716, 3.2, 3.4 and Appendix B). A frame is empty if it has no bytes; padding does not count.
+// A self-delimited packet may end before the bytes do; any other takes all of them.
+// Example: `packet_frames(&[0x01, 0xaa, 0xbb], false)` is `Framed::Frames(2, false, 3)`, for two frames of one byte each.
+pub fn packet_frames(s: &[u8], delimited: bool) -> Framed
+    ensures { λ r. ⌜ FramedIs (now (s .entry)) (outline (parse delimited (now (s .entry)))) r ⌝ }
 {
     let layout = layout_of(s);
     match layout {
-        Layout::Illegal => Found::Missing,
+        Layout::Illegal => Framed::Illegal,
         Layout::Frames {
             count,
             vary,

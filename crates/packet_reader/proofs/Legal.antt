@@ -18,8 +18,9 @@ use Rattle.packet_frames.specs.Packet.{Shape, broken, shape, padded, countOf, i
 use Rattle.packet_toc.proofs.Samples.{FrameLength, frame-length}
 use Rattle.packet_frames.proofs.Shapes.{some}
 use Rattle.packet_frames.proofs.Framing.{times-length}
-use Rattle.packet_reader.specs.Streams.{samplesOf, Measured, illegal, measured, withFirst, lastOf, firstAnd, lengthsOf, isIllegal, packetChecks, firstLength, readPacket}
-use Rattle.packet_reader.specs.Statements.{PacketLength, Legal, LegalPackets, LegalLengths}
+use Rattle.packet_reader.specs.declared.Contents.{Contents}
+use Rattle.packet_reader.specs.Streams.{contentsOf, Measured, illegal, measured, withFirst, lastOf, firstAnd, measuredOf, isIllegal, packetChecks, firstContents, readPacket}
+use Rattle.packet_reader.specs.Statements.{PacketLength, Legal, LegalContents, LegalPackets, LegalLengths}
 
 -- ---- as many frames as the shape tells
 
@@ -130,33 +131,36 @@ legal-packets self b sizes s e = by-shape self b (shapeOf b) sizes s (shape-boun
 
 abbrev Good : Measured → Type 0
 Good illegal = Unit {0}
-Good (measured d ds) = PacketLength d
+Good (measured c ds) = LegalContents c
+
+legal-contents : (b : Bytes) (sizes : List ℕ) → Legal b sizes → LegalContents (contentsOf b sizes)
+legal-contents b sizes l = record { samples = l .samples; some = l .some; few = l .few }
 
 last-good : (b : Bytes) (p : Parsed) → ((sizes : List ℕ) (s : Bytes) → p ≡ frames sizes s → Legal b sizes) → Good (lastOf b p)
 last-good b (breaks rule) h = tt
-last-good b (frames sizes s) h = h sizes s refl .samples
+last-good b (frames sizes s) h = legal-contents b sizes (h sizes s refl)
 
-with-good : (d : ℕ) (m : Measured) → PacketLength d → Good (withFirst d m)
-with-good d illegal g = tt
-with-good d (measured e es) g = g
+with-good : (c : Contents) (m : Measured) → LegalContents c → Good (withFirst c m)
+with-good c illegal g = tt
+with-good c (measured e es) g = g
 
 first-good : (f : Bytes → Measured) (b : Bytes) (p : Parsed) → ((sizes : List ℕ) (s : Bytes) → p ≡ frames sizes s → Legal b sizes) → Good (firstAnd f b p)
 first-good f b (breaks rule) h = tt
-first-good f b (frames sizes s) h = with-good (samplesOf b sizes) (f s) (h sizes s refl .samples)
+first-good f b (frames sizes s) h = with-good (contentsOf b sizes) (f s) (legal-contents b sizes (h sizes s refl))
 
-all-good : (n : ℕ) (b : Bytes) → Good (lengthsOf n b)
-unfolding lengthsOf
+all-good : (n : ℕ) (b : Bytes) → Good (measuredOf n b)
+unfolding measuredOf
 all-good zero b = last-good b (parse false b) (legal-packets false b)
-all-good (suc n) b = first-good (lengthsOf n) b (parse true b) (legal-packets true b)
+all-good (suc n) b = first-good (measuredOf n) b (parse true b) (legal-packets true b)
 
-good-first : (m : Measured) → isIllegal m ≡ false → Good m → PacketLength (firstLength m)
+good-first : (m : Measured) → isIllegal m ≡ false → Good m → LegalContents (firstContents m)
 good-first illegal e g = let z : _≡_ {A = ℕ} 0 1 = cc in absurd (omega arith)
-good-first (measured d ds) e g = g
+good-first (measured c ds) e g = g
 
 pub legal-lengths : LegalLengths
 unfolding readPacket
-legal-lengths b n d e =
-    let m : Measured = lengthsOf (n - 1) b in
-    let r = no-refusal (firstOf (packetChecks b n)) (firstLength m) d e in
+legal-lengths b n c e =
+    let m : Measured = measuredOf (n - 1) b in
+    let r = no-refusal (firstOf (packetChecks b n)) (firstContents m) c e in
     let legal = passed _ _ _ (passed _ _ _ (r .0) .1) .0 in
     rw (r .1) at (good-first m legal (all-good (n - 1) b))

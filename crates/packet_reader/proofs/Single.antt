@@ -1,27 +1,37 @@
 -- A packet of one frame that has no length coded. Assumes nothing.
-use mathlib.Core.Path.{_≡_, ap, _∙_}
-use mathlib.Core.Bool.{true}
+use mathlib.Core.Path.{_≡_, refl, ap, _∙_}
+use mathlib.Core.Bool.{Bool, true, false, _&&_}
 use mathlib.Core.List.{[], _∷_}
-use Prim.Native.Nat.{ℕ, _+_, _*_, _-_, _≤_}
+use Prim.Native.Nat.{ℕ, suc, _+_, _-_, _≤_}
 use native.Mathlib.Omega.{arith}
 use borrow.Author.Tests.{le-ltb, ltb-true}
-use lib.Dec.{ltb, eqb}
+use lib.Dec.{ltb, eqb, eqb·suc-suc}
 use lib.ListN.{length, getD}
 use Rattle.octets.specs.Octets.{Bytes, total}
 use Rattle.octets.proofs.Tests.{both}
 use Rattle.refusal.specs.Told.{gives}
-use Rattle.packet_toc.specs.Toc.{codeOf, frameSamples}
-use Rattle.packet_frames.specs.Frames.{frameMax, codedTimes}
+use Rattle.packet_toc.specs.Toc.{codeOf}
+use Rattle.packet_frames.specs.Frames.{frameMax, codedTimes, isSilent}
 use Rattle.packet_frames.specs.Packet.{shapeOf, parse}
-use Rattle.packet_reader.specs.Streams.{measured, lengthsOf, allAre, readPacket}
-use Rattle.packet_reader.specs.Code.{isSingle}
+use Rattle.packet_reader.specs.Streams.{contentsOf, measured, measuredOf, allAre, readPacket}
+use Rattle.packet_reader.specs.Code.{madeOf, isSingle}
 use Rattle.packet_reader.proofs.Verdict.{by-streams}
 
-measured-single : (toc : ℕ) (s : Bytes) → length s ≤ frameMax → eqb (codeOf toc) 0 ≡ true → lengthsOf 0 (toc ∷ s) ≡ measured (1 * frameSamples toc) []
-unfolding lengthsOf parse shapeOf codedTimes total
+and-true : (t : Bool) → t && true ≡ t
+and-true true = refl
+and-true false = refl
+
+measured-single : (toc : ℕ) (s : Bytes) → length s ≤ frameMax → eqb (codeOf toc) 0 ≡ true
+    → measuredOf 0 (toc ∷ s) ≡ measured (contentsOf (toc ∷ s) ((length s - 0) ∷ [])) []
+unfolding measuredOf parse shapeOf codedTimes total
 measured-single toc s h e = rw (e, le-ltb (length s) 0 (omega arith), le-ltb frameMax (length s - 0) (omega arith))
 
-pub reads-single : (b : Bytes) → isSingle b ≡ true → readPacket b 1 ≡ gives (frameSamples (getD b 0 0))
+-- its frame is empty where it has the first byte alone
+silent-single : (s : Bytes) → isSilent ((length s - 0) ∷ []) ≡ eqb (suc (length s)) 1
+unfolding isSilent
+silent-single s = let e : length s - 0 ≡ length s = omega arith in rw (e, eqb·suc-suc (length s) 0) (and-true (eqb (length s) 0))
+
+pub reads-single : (b : Bytes) → isSingle b ≡ true → readPacket b 1 ≡ gives (madeOf (getD b 0 0) 1 (eqb (length b) 1))
 unfolding isSingle allAre
 reads-single [] e = let z : _≡_ {A = ℕ} 0 1 = cc in absurd (omega arith)
 reads-single (toc ∷ s) e =
@@ -29,4 +39,4 @@ reads-single (toc ∷ s) e =
     let last = both (ltb (length (toc ∷ s)) (frameMax + 2)) _ (more .1) in
     let short = ltb-true (length (toc ∷ s)) (frameMax + 2) (last .0) in
     by-streams (toc ∷ s) 1 (λ z. omega arith) (omega arith)
-    ∙ rw (measured-single toc s (omega arith) (last .1)) (ap gives (omega arith))
+    ∙ rw (measured-single toc s (omega arith) (last .1)) (ap (λ (t : Bool). gives (madeOf toc 1 t)) (silent-single s))

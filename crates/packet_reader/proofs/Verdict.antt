@@ -10,24 +10,25 @@ use Rattle.refusal.specs.declared.Refusal.the-variants.{BadMapping, IllegalPack
 use Rattle.refusal.specs.Numbers.{numberOf}
 use Rattle.refusal.specs.Checks.{_when_, firstOf}
 use Rattle.refusal.specs.Told.{Told, gives, refuses, decided}
-use Rattle.packet_reader.specs.Streams.{Measured, illegal, measured, allAre, isIllegal, isMixed, firstLength, lengthsOf, readPacket}
+use Rattle.packet_reader.specs.declared.Contents.{Contents}
+use Rattle.packet_reader.specs.Streams.{Measured, illegal, measured, allAre, isIllegal, isMixed, firstContents, measuredOf, readPacket}
 use Rattle.packet_reader.specs.Code.{Agreed, notLegal, notSame, same, agreed}
 
-abbrev pub verdict : Agreed → Told ℕ
+abbrev pub verdict : Agreed → Told Contents
 verdict notLegal = refuses (numberOf IllegalPacket)
 verdict notSame = refuses (numberOf MixedLengths)
-verdict (same d) = gives d
+verdict (same c) = gives c
 
-by-test : (d : ℕ) (t : Bool)
-    → decided (firstOf (IllegalPacket when false ∷ MixedLengths when not t ∷ [])) d ≡ verdict (pick t (same d) notSame)
+by-test : (c : Contents) (t : Bool)
+    → decided (firstOf (IllegalPacket when false ∷ MixedLengths when not t ∷ [])) c ≡ verdict (pick t (same c) notSame)
 unfolding firstOf
-by-test d true = refl
-by-test d false = refl
+by-test c true = refl
+by-test c false = refl
 
-by-lengths : (m : Measured) → decided (firstOf (IllegalPacket when isIllegal m ∷ MixedLengths when isMixed m ∷ [])) (firstLength m) ≡ verdict (agreed m)
+by-lengths : (m : Measured) → decided (firstOf (IllegalPacket when isIllegal m ∷ MixedLengths when isMixed m ∷ [])) (firstContents m) ≡ verdict (agreed m)
 unfolding firstOf
 by-lengths illegal = refl
-by-lengths (measured d ds) = by-test d (allAre d ds)
+by-lengths (measured c ds) = by-test c (allAre (c .measure .samples) ds)
 
 module _ (b : Bytes) (n : ℕ) where
   pub no-streams : n ≡ 0 → readPacket b n ≡ refuses (numberOf BadMapping)
@@ -38,6 +39,6 @@ module _ (b : Bytes) (n : ℕ) where
   unfolding readPacket firstOf
   too-many-streams z h = rw (ne-eqb n 0 z, lt-ltb 255 n h)
 
-  pub by-streams : (n ≡ 0 → ⊥) → n ≤ 255 → readPacket b n ≡ verdict (agreed (lengthsOf (n - 1) b))
+  pub by-streams : (n ≡ 0 → ⊥) → n ≤ 255 → readPacket b n ≡ verdict (agreed (measuredOf (n - 1) b))
   unfolding readPacket firstOf
-  by-streams z h = rw (ne-eqb n 0 z, le-ltb 255 n h) (by-lengths (lengthsOf (n - 1) b))
+  by-streams z h = rw (ne-eqb n 0 z, le-ltb 255 n h) (by-lengths (measuredOf (n - 1) b))

@@ -10,40 +10,51 @@ use Rattle.refusal.specs.declared.Refusal.the-variants.{BadMapping, IllegalPack
 use Rattle.refusal.specs.Checks.{Check, _when_, firstOf}
 use Rattle.refusal.specs.Told.{Told, gives, refuses, decided}
 use Rattle.refusal.specs.Numbers.{numberOf}
-use Rattle.packet_toc.specs.Toc.{frameSamples}
+use Rattle.packet_toc.specs.Toc.{frameSamples, isStereo}
+use Rattle.packet_frames.specs.Frames.{isSilent}
 use Rattle.packet_frames.specs.Packet.{Parsed, breaks, frames, parse}
+use Rattle.packet_reader.specs.declared.Contents.{Contents}
 use Rattle.packet_reader.specs.declared.PacketRead.{PacketRead}
-use Rattle.packet_reader.specs.declared.PacketRead.the-variants.{Samples, Refused}
+use Rattle.packet_reader.specs.declared.PacketRead.the-variants.{Legal, Refused}
 
 -- a packet's length in samples
 abbrev pub samplesOf : Bytes → List ℕ → ℕ
 samplesOf b sizes = length sizes * frameSamples (getD b 0 0)
 
--- the lengths in samples of some packets
+-- what a packet with frames of these sizes is made of
+abbrev pub contentsOf : Bytes → List ℕ → Contents
+contentsOf b sizes =
+    record {
+      measure = record { samples = samplesOf b sizes; frames = length sizes };
+      stereo = isStereo (getD b 0 0);
+      silent = isSilent sizes;
+    }
+
+-- some packets by what the first is made of, and their lengths in samples
 pub data Measured : Type 0 where
   -- one of the packets is illegal
   illegal : Measured
-  -- the length of the first, and those of the later ones
-  measured : ℕ → List ℕ → Measured
+  -- what the first is made of, and the lengths of the later ones
+  measured : Contents → List ℕ → Measured
 
-abbrev pub withFirst : ℕ → Measured → Measured
-withFirst d illegal = illegal
-withFirst d (measured e es) = measured d (e ∷ es)
+abbrev pub withFirst : Contents → Measured → Measured
+withFirst c illegal = illegal
+withFirst c (measured e es) = measured c (e .measure .samples ∷ es)
 
 -- the last packet
 abbrev pub lastOf : Bytes → Parsed → Measured
 lastOf b (breaks rule) = illegal
-lastOf b (frames sizes s) = measured (samplesOf b sizes) []
+lastOf b (frames sizes s) = measured (contentsOf b sizes) []
 
 -- a packet that others follow
 abbrev pub firstAnd : (Bytes → Measured) → Bytes → Parsed → Measured
 firstAnd later b (breaks rule) = illegal
-firstAnd later b (frames sizes s) = withFirst (samplesOf b sizes) (later s)
+firstAnd later b (frames sizes s) = withFirst (contentsOf b sizes) (later s)
 
--- the lengths in samples of the packets, the last one after n others
-unfoldable pub lengthsOf : ℕ → Bytes → Measured
-lengthsOf zero b = lastOf b (parse false b)
-lengthsOf (suc n) b = firstAnd (lengthsOf n) b (parse true b)
+-- the packets, the last one after n others
+unfoldable pub measuredOf : ℕ → Bytes → Measured
+measuredOf zero b = lastOf b (parse false b)
+measuredOf (suc n) b = firstAnd (measuredOf n) b (parse true b)
 
 unfoldable pub allAre : ℕ → List ℕ → Bool
 allAre d [] = true
@@ -51,28 +62,31 @@ allAre d (e ∷ es) = eqb e d && allAre d es
 
 abbrev pub isIllegal : Measured → Bool
 isIllegal illegal = true
-isIllegal (measured d ds) = false
+isIllegal (measured c ds) = false
 
 abbrev pub isMixed : Measured → Bool
 isMixed illegal = false
-isMixed (measured d ds) = not (allAre d ds)
+isMixed (measured c ds) = not (allAre (c .measure .samples) ds)
 
-abbrev pub firstLength : Measured → ℕ
-firstLength illegal = 0
-firstLength (measured d ds) = d
+abbrev pub noContents : Contents
+noContents = record { measure = record { samples = 0; frames = 0 }; stereo = false; silent = false }
+
+abbrev pub firstContents : Measured → Contents
+firstContents illegal = noContents
+firstContents (measured c ds) = c
 
 abbrev pub packetChecks : Bytes → ℕ → List Check
 packetChecks b streams =
     BadMapping when (eqb streams 0 || ltb 255 streams)
-    ∷ IllegalPacket when isIllegal (lengthsOf (streams - 1) b)
-    ∷ MixedLengths when isMixed (lengthsOf (streams - 1) b)
+    ∷ IllegalPacket when isIllegal (measuredOf (streams - 1) b)
+    ∷ MixedLengths when isMixed (measuredOf (streams - 1) b)
     ∷ []
 
--- the length in samples, or a refusal
-unfoldable pub readPacket : Bytes → ℕ → Told ℕ
-readPacket b streams = decided (firstOf (packetChecks b streams)) (firstLength (lengthsOf (streams - 1) b))
+-- what the packet is made of, or a refusal
+unfoldable pub readPacket : Bytes → ℕ → Told Contents
+readPacket b streams = decided (firstOf (packetChecks b streams)) (firstContents (measuredOf (streams - 1) b))
 
 -- what the code's answer tells
-abbrev pub toldPacket : PacketRead → Told ℕ
-toldPacket (Samples d) = gives d
+abbrev pub toldPacket : PacketRead → Told Contents
+toldPacket (Legal c) = gives c
 toldPacket (Refused r) = refuses (numberOf r)

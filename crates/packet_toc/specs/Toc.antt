@@ -1,11 +1,16 @@
 -- The first byte of an Opus packet (RFC 6716, 3.1; RULES.md, 6). Assumes nothing.
 use Prim.Native.Nat.{ℕ, _/_, _%_}
+use mathlib.Core.Bool.{Bool}
 use lib.Dec.{ltb, eqb}
 use Rattle.octets.specs.Pick.{pick}
 
--- the TOC byte: the config in its top five bits, the code in its lowest two
+-- the TOC byte: the config in its top five bits, the bit s below them, the code in its lowest two
 abbrev pub configOf : ℕ → ℕ
 configOf toc = toc / 8
+
+-- the bit s (RFC 6716, 3.1): stereo
+abbrev pub isStereo : ℕ → Bool
+isStereo toc = eqb (toc / 4 % 2) 1
 
 abbrev pub codeOf : ℕ → ℕ
 codeOf toc = toc % 4

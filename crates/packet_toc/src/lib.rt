@@ -1,6 +1,6 @@
-// The first byte of an Opus packet (RFC 6716, 3.1): the samples of a frame.
+// The first byte of an Opus packet (RFC 6716, 3.1): the samples of a frame, and whether it is stereo.
 ghost use mathlib.Core.Path.{_≡_};
-ghost use Rattle.packet_toc.specs.Toc.{frameSamples};
+ghost use Rattle.packet_toc.specs.Toc.{frameSamples, isStereo};
 
 // Samples in a frame of each config, in units of 120 (RFC 6716, 3.1, table 2): bytes, since the table is stored at each call.
 const UNITS: [u8; 32] = [
@@ -45,4 +45,12 @@ pub fn frame_samples(toc: u8) -> u32
 {
     let config = toc / 8;
     UNITS[config as usize] as u32 * 120
+}
+
+// Whether a packet is stereo, by the bit s of its first byte, of value 4 (RFC 6716, 3.1).
+// Example: `is_stereo(0xfc)` is true, and `is_stereo(0xf8)` is false.
+pub fn is_stereo(toc: u8) -> bool
+    ensures { λ r. ⌜ r ≡ isStereo toc ⌝ }
+{
+    toc / 4 % 2 == 1
 }

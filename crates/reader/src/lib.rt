@@ -140,8 +140,8 @@ fn fed_of(fed: PageFed) -> Fed
 // holds is told, but 19 and 18 before 17, and for each packet in turn 15 before 16. 1: the carry buffer has fewer than
 // 61,440 bytes, or a list fewer than 255 places.
 // The carry buffer has to hold, up to the held count, what the last feeding left there. Of an accepted page the lists show,
-// from place 0 on, the end stamp, the length and the kept count of each packet. A refusal leaves the lists as they were. One
-// of 12 to 19 may leave the page's first piece in the carry buffer, after the held bytes.
+// from place 0 on, the end stamp, the length, the kept count and the frames of each packet. A refusal leaves the lists as they
+// were. One of 12 to 19 may leave the page's first piece in the carry buffer, after the held bytes.
 // Example: a right first page fed to `start()` gives `Fed::Accepted(next, counts)`, and the second page is fed to `next`.
 pub fn feed(
     reader: Reader,
@@ -150,12 +150,22 @@ pub fn feed(
     ends: &mut [u64],
     lengths: &mut [u64],
     kept: &mut [u64],
+    frames: &mut [u64],
 ) -> Fed
     ensures { λ r. ⌜
         Feeds (readings pageCrc) (knownAs reader) (now (page .entry))
-        (atEntry carry ends lengths kept) (toldFed r) (atExit carry ends lengths kept) ⌝ }
+        (atEntry carry ends lengths kept frames) (toldFed r) (atExit carry ends lengths kept frames) ⌝ }
 {
-    fed_of(feed_page::feed_core(reader.core, reader.tally, page, carry, ends, lengths, kept))
+    fed_of(feed_page::feed_core(
+        reader.core,
+        reader.tally,
+        page,
+        carry,
+        ends,
+        lengths,
+        kept,
+        frames,
+    ))
 }
 
 // The same as `feed`, by lent tables: those of `page_crc_tables::table::tables` give the checksum, and others what they give
@@ -169,10 +179,11 @@ pub fn feed_with(
     ends: &mut [u64],
     lengths: &mut [u64],
     kept: &mut [u64],
+    frames: &mut [u64],
 ) -> Fed
     ensures { λ r. ⌜
         Feeds (readings (pageSliced (entryIn (now (tables .entry))))) (knownAs reader) (now (page .entry))
-        (atEntry carry ends lengths kept) (toldFed r) (atExit carry ends lengths kept) ⌝ }
+        (atEntry carry ends lengths kept frames) (toldFed r) (atExit carry ends lengths kept frames) ⌝ }
 {
     fed_of(feed_page::feed_core_with(
         tables,
@@ -183,6 +194,7 @@ pub fn feed_with(
         ends,
         lengths,
         kept,
+        frames,
     ))
 }
 
@@ -246,15 +258,16 @@ pub fn feed_state(
     ends: &mut [u64],
     lengths: &mut [u64],
     kept: &mut [u64],
+    frames: &mut [u64],
 ) -> StateFed
     ensures { λ r. ⌜
-        StateFeeds (readings pageCrc) (now (state .entry)) (now (page .entry)) (atEntry carry ends lengths kept)
-        r (now (state .exit)) (atExit carry ends lengths kept) ⌝ }
+        StateFeeds (readings pageCrc) (now (state .entry)) (now (page .entry)) (atEntry carry ends lengths kept frames)
+        r (now (state .exit)) (atExit carry ends lengths kept frames) ⌝ }
 {
     let core = feed_numbers::core_from(state);
     let tally = feed_numbers::tally_from(state);
     keep(
-        feed_page::feed_core(core, tally, page, carry, ends, lengths, kept),
+        feed_page::feed_core(core, tally, page, carry, ends, lengths, kept, frames),
         state,
     )
 }

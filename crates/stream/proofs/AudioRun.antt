@@ -21,7 +21,8 @@ use Rattle.granule.proofs.Tallies.{tally-same}
 use Rattle.granule.proofs.Counting.{skip-after}
 use Rattle.stream.specs.declared.Counts.{Counts}
 use Rattle.stream.specs.Page.{Page, pageOf, continued, last, granuleOf, ends, completes}
-use Rattle.stream.specs.Readings.{Measure, Readings}
+use Rattle.packet_reader.specs.declared.Measure.{Measure}
+use Rattle.stream.specs.Readings.{Readings}
 use Rattle.stream.specs.State.{Carried, State, unfinished, expecting}
 use Rattle.stream.specs.Packets.{seen, audioPackets, measuresOf, samplesOf}
 use Rattle.stream.specs.Rules.{startOn, afterPosition, nextOn, verdict, after}

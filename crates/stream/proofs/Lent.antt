@@ -4,5 +4,5 @@ use mathlib.Core.Path.{_≡_}
 use mathlib.Core.List.{List}
 use Rattle.stream.specs.Lent.{lentOf}
 
-pub same-lent : {c d e f l m k n : List ℕ} → c ≡ d → e ≡ f → l ≡ m → k ≡ n → lentOf c e l k ≡ lentOf d f m n
-same-lent p q r s = cc
+pub same-lent : {c d e f l m k n i j : List ℕ} → c ≡ d → e ≡ f → l ≡ m → k ≡ n → i ≡ j → lentOf c e l k i ≡ lentOf d f m n j
+same-lent p q r s t = cc

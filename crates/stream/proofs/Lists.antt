@@ -1,4 +1,4 @@
--- What an accepted page leaves in the three lists, and that they have the room. Assumes nothing.
+-- What an accepted page leaves in the four lists, and that they have the room. Assumes nothing.
 use Prim.Native.Nat.{ℕ, suc, _+_, _-_, _≤_, _<_, min}
 use mathlib.Core.Path.{_≡_, refl, sym, ap, subst, _∙_}
 use mathlib.Core.Bool.{Bool, true, false}
@@ -16,7 +16,8 @@ use Rattle.page_layout.specs.Page.{lacingOf, countOf}
 use Rattle.page_lacing.specs.Lacing.{cutFrom}
 use Rattle.stream.specs.declared.Counts.{Counts}
 use Rattle.stream.specs.Page.{pageOf, wholeFrom, whole, rest}
-use Rattle.stream.specs.Readings.{Measure, Readings}
+use Rattle.packet_reader.specs.declared.Measure.{Measure}
+use Rattle.stream.specs.Readings.{Readings}
 use Rattle.stream.specs.State.{Carried, nothing, dropped, held, State, inHeaders}
 use Rattle.stream.specs.Packets.{Seen, join, seen, audioPackets, measuresOf}
 use Rattle.stream.specs.Rules.{verdict}
@@ -107,6 +108,7 @@ shows-by R r m b t none o e =
       ends = has-first (λ (n : Entry). n .end) es (m .ends);
       lengths = has-first (λ (n : Entry). n .samples) es (m .lengths);
       kept = has-first (λ (n : Entry). n .kept) es (m .kept);
+      frames = has-first (λ (n : Entry). n .frames) es (m .frames);
       room = length-carry none s (pageOf b) (m .carry);
     }
   where

@@ -3,7 +3,7 @@ use Prim.Native.Nat.{ℕ, _+_, _-_, _<_}
 use mathlib.Core.Path.{_≡_, refl, sym, ap, _∙_}
 use mathlib.Core.Bool.{Bool, true, false, not}
 use mathlib.Core.List.{List, [], _∷_}
-use mathlib.Core.Option.{none, some}
+use mathlib.Core.Option.{Option, none, some}
 use native.Mathlib.Omega.{arith}
 use borrow.Author.Tests.{ne-eqb, le-ltb}
 use lib.Dec.{ltb, eqb, lit<}
@@ -11,9 +11,10 @@ use lib.ListN.{length}
 use Rattle.octets.specs.Pick.{pick}
 use Rattle.octets.specs.Octets.{Bytes, Octets}
 use Rattle.octets.proofs.Parts.{octets-take, octets-drop}
+use Rattle.refusal.specs.declared.Refusal.{Refusal}
 use Rattle.refusal.specs.declared.Refusal.the-variants.{IllegalPacket, MixedLengths}
 use Rattle.refusal.specs.Checks.{firstOf}
-use Rattle.refusal.specs.Told.{Told, gives, refuses, decided}
+use Rattle.refusal.specs.Told.{Told, gives, refuses, decided, retold}
 use Rattle.page_layout.specs.Page.{bodyOf, countOf}
 use Rattle.page_lacing.specs.Lacing.{cutFrom}
 use Rattle.page_reader.specs.Reading.{readPage}
@@ -23,7 +24,8 @@ use Rattle.head_fields.specs.Right.{rightHead, rightMapping}
 use Rattle.head_reader.specs.Reading.{isHead, readHead}
 use Rattle.head_reader.proofs.ReadRight.{read-is-right}
 use Rattle.tags_reader.specs.Reading.{readTags}
-use Rattle.packet_reader.specs.Streams.{lengthsOf, isIllegal, isMixed, firstLength, readPacket}
+use Rattle.packet_reader.specs.declared.Contents.{Contents}
+use Rattle.packet_reader.specs.Streams.{measuredOf, isIllegal, isMixed, firstContents, readPacket}
 use Rattle.stream.specs.Page.{Page, pageOf, wholeFrom, whole, rest}
 use Rattle.stream.specs.Readings.{Readings, readings}
 use Rattle.stream.specs.State.{nothing, State, expecting}
@@ -45,6 +47,10 @@ twice : (t : Bool) → not (not t) ≡ t
 twice true = refl
 twice false = refl
 
+retold-decided : {A B : Type 0} (f : A → B) (o : Option Refusal) (a : A) → retold f (decided o a) ≡ decided o (f a)
+retold-decided f none a = refl
+retold-decided f (some r) a = refl
+
 pub readings-agree : ReadingsAgree
 unfolding readings readPage pageOf readHead readTags readPacket packetChecks firstOf
 readings-agree crc = record {
@@ -54,7 +60,11 @@ readings-agree crc = record {
   packet = λ b n low high.
       let z : eqb n 0 ≡ false = ne-eqb n 0 (λ e. (omega arith)) in
       let few : ltb 255 n ≡ false = le-ltb 255 n high in
-      (rw (z, few) (ap (λ (t : Bool). decided (pick t (some IllegalPacket) (pick (isMixed (lengthsOf (n - 1) b)) (some MixedLengths) none)) (firstLength (lengthsOf (n - 1) b))) (twice (isIllegal (lengthsOf (n - 1) b)))));
+      let o : Option Refusal = pick (isMixed (measuredOf (n - 1) b)) (some MixedLengths) none in
+      let c : Contents = firstContents (measuredOf (n - 1) b) in
+      (rw (z, few)
+      (ap (λ (t : Bool). decided (pick t (some IllegalPacket) o) (c .measure)) (twice (isIllegal (measuredOf (n - 1) b)))
+      ∙ sym (retold-decided (λ (x : Contents). x .measure) (pick (isIllegal (measuredOf (n - 1) b)) (some IllegalPacket) o) c)));
 }
 
 -- ---- the header of a stream

@@ -21,12 +21,13 @@ use Rattle.stream.specs.declared.Pending.{Pending}
 use Rattle.stream.specs.declared.Pending.the-variants.{Nothing, Held, Dropped}
 use Rattle.stream.specs.declared.Core.{Core}
 use Rattle.stream.specs.Page.{Page, pageOf, whole, rest}
-use Rattle.stream.specs.Readings.{Measure, Readings}
+use Rattle.packet_reader.specs.declared.Measure.{Measure}
+use Rattle.stream.specs.Readings.{Readings}
 use Rattle.stream.specs.State.{Carried, held, State, isEnded, expectingIn, expecting}
 use Rattle.stream.specs.Packets.{Seen, seen, isLong}
 use Rattle.limits.specs.Limits.{packetMax, listMax}
 use Rattle.stream.specs.Lent.{Lent, isShort}
-use Rattle.stream.specs.Rules.{checksOn, Stamp, stamps, stampsOn, nextOn, verdict, after, stamped}
+use Rattle.stream.specs.Rules.{checksOn, Stamp, stampAt, stamps, stampsOn, nextOn, verdict, after, stamped}
 use Rattle.stream.specs.Feed.{Reader, carriedIn, view, coreOf, stampOf, entries, entriesOn, firstPiece, appended, firstLate, isLate, carryAfter, Fed, fedBy, feed}
 use Rattle.stream.specs.Feedings.{readerBy, heldOf, tell}
 use Rattle.stream.specs.Statements.{Keeps, RefusalKeeps, CongruenceSame}
@@ -39,7 +40,8 @@ pub enough : (m : Lent) → isShort m ≡ false → packetMax ≤ length (m .car
 unfolding isShort
 enough m e = ltb-false (length (m .carry)) packetMax
     (or-left (ltb (length (m .carry)) packetMax)
-    (ltb (length (m .ends)) listMax || (ltb (length (m .lengths)) listMax || ltb (length (m .kept)) listMax)) e)
+    (ltb (length (m .ends)) listMax || (ltb (length (m .lengths)) listMax
+    || (ltb (length (m .kept)) listMax || ltb (length (m .frames)) listMax))) e)
 
 -- the state that expects the page, and its packets
 abbrev pub expected : Reader → Bytes → Bytes → State
@@ -92,7 +94,7 @@ pub entries-stamps : (skip : ℕ) (end : Bool) (g at : ℕ) (ds : List Measure) 
 unfolding entries stamps
 entries-stamps skip end g at [] = refl
 entries-stamps skip end g at (d ∷ ds) =
-    ap (λ (l : List Stamp). record { end = at + d .samples; samples = d .samples } ∷ l)
+    ap (λ (l : List Stamp). stampAt at d ∷ l)
     (entries-stamps (skip - d .samples) end g (at + d .samples) ds)
 
 -- the view after an accepted page is the state that follows
@@ -182,6 +184,7 @@ keeps-by R r m b n room (some k) e h =
       ends = refl;
       lengths = refl;
       kept = refl;
+      frames = refl;
     }
 
 pub refusal-keeps : RefusalKeeps
@@ -190,7 +193,7 @@ refusal-keeps R r m b n h = by (isShort m) refl
     by : (t : Bool) → isShort m ≡ t → Keeps r m (feed R r m b .lent) n
     by true e =
         subst (λ (f : Fed). Keeps r m (f .lent) n) (sym (feeds-short R r m b e))
-        (record { held = refl; room = refl; untouched = λ small. refl; ends = refl; lengths = refl; kept = refl })
+        (record { held = refl; room = refl; untouched = λ small. refl; ends = refl; lengths = refl; kept = refl; frames = refl })
     by false e =
         subst (λ (f : Fed). Keeps r m (f .lent) n) (sym (feeds R r m b e))
         (keeps-by R r m b n (enough m e) (verdict R (view (r .core) (m .carry)) b) refl (sym (ap (λ (f : Fed). f .told) (feeds R r m b e)) ∙ h))

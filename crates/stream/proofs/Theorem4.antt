@@ -18,7 +18,8 @@ use Rattle.granule.specs.Judging.{tooSmall, from, hole}
 use Rattle.granule.proofs.Tallies.{tally-same, tally-parts}
 use Rattle.stream.specs.Page.{pageOf, last, granuleOf, completes}
 use Rattle.stream.specs.Packets.{samplesOf}
-use Rattle.stream.specs.Readings.{Measure, Readings}
+use Rattle.packet_reader.specs.declared.Measure.{Measure}
+use Rattle.stream.specs.Readings.{Readings}
 use Rattle.stream.specs.State.{State, expecting}
 use Rattle.stream.specs.Packets.{seen}
 use Rattle.stream.specs.Rules.{afterPosition, verdict}

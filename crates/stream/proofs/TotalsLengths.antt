@@ -13,12 +13,13 @@ use Rattle.granule.specs.Samples.{keptOf, trimmedOf, tally}
 use Rattle.granule.proofs.Counting.{samples-in-parts}
 use Rattle.packet_frames.specs.Frames.{samplesMax}
 use Rattle.packet_frames.specs.Packet.{Parsed, breaks, frames, parse}
-use Rattle.packet_reader.specs.Streams.{samplesOf as samplesIn, Measured, illegal, measured, withFirst, lastOf, firstAnd, firstLength}
-use Rattle.packet_reader.specs.Streams.{lengthsOf as measuredOf}
+use Rattle.packet_reader.specs.declared.Contents.{Contents}
+use Rattle.packet_reader.specs.Streams.{contentsOf, Measured, illegal, measured, withFirst, lastOf, firstAnd, measuredOf, firstContents}
 use Rattle.packet_reader.specs.Statements.{Legal}
 use Rattle.packet_reader.proofs.Legal.{legal-packets}
 use Rattle.stream.specs.Page.{Page, pageOf, completes, whole, rest}
-use Rattle.stream.specs.Readings.{Measure, Readings, readings}
+use Rattle.packet_reader.specs.declared.Measure.{Measure}
+use Rattle.stream.specs.Readings.{Readings, readings}
 use Rattle.stream.specs.State.{Carried, nothing, dropped, held, State, inHeaders}
 use Rattle.stream.specs.Packets.{join, seen, audioPackets, measuresOf, samplesOf}
 use Rattle.stream.specs.Feed.{Entry, entries}
@@ -30,20 +31,20 @@ use Rattle.stream.proofs.Lists.{audio-few}
 
 abbrev Most : Measured → Type 0
 Most illegal = Unit {0}
-Most (measured d ds) = d ≤ samplesMax
+Most (measured c ds) = c .measure .samples ≤ samplesMax
 
 last-most : (b : Bytes) (p : Parsed) → ((sizes : List ℕ) (s : Bytes) → p ≡ frames sizes s → Legal b sizes) → Most (lastOf b p)
 last-most b (breaks rule) h = tt
 last-most b (frames sizes s) h = h sizes s refl .samples .most
 
-with-most : (d : ℕ) (m : Measured) → d ≤ samplesMax → Most (withFirst d m)
-with-most d illegal h = tt
-with-most d (measured e es) h = h
+with-most : (c : Contents) (m : Measured) → c .measure .samples ≤ samplesMax → Most (withFirst c m)
+with-most c illegal h = tt
+with-most c (measured e es) h = h
 
 first-most : (f : Bytes → Measured) (b : Bytes) (p : Parsed) → ((sizes : List ℕ) (s : Bytes) → p ≡ frames sizes s → Legal b sizes)
     → Most (firstAnd f b p)
 first-most f b (breaks rule) h = tt
-first-most f b (frames sizes s) h = with-most (samplesIn b sizes) (f s) (h sizes s refl .samples .most)
+first-most f b (frames sizes s) h = with-most (contentsOf b sizes) (f s) (h sizes s refl .samples .most)
 
 all-most : (n : ℕ) (b : Bytes) → Most (measuredOf n b)
 unfolding measuredOf
@@ -51,7 +52,7 @@ all-most zero b = last-most b (parse false b) (legal-packets false b)
 all-most (suc n) b = first-most (measuredOf n) b (parse true b) (legal-packets true b)
 
 -- an illegal one has no samples
-length-most : (m : Measured) → Most m → firstLength m ≤ samplesMax
+length-most : (m : Measured) → Most m → firstContents m .measure .samples ≤ samplesMax
 length-most illegal h = omega arith
 length-most (measured d ds) h = h
 

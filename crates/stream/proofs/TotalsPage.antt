@@ -19,7 +19,8 @@ use Rattle.granule.proofs.Placing.{fits-placed}
 use Rattle.stream.specs.declared.Phase.{Phase}
 use Rattle.stream.specs.declared.Phase.the-variants.{First, Comment, Audio, Opened, Ended}
 use Rattle.stream.specs.Page.{Page, pageOf, last, granuleOf, completes}
-use Rattle.stream.specs.Readings.{Measure, Readings, readings}
+use Rattle.packet_reader.specs.declared.Measure.{Measure}
+use Rattle.stream.specs.Readings.{Readings, readings}
 use Rattle.stream.specs.State.{State, isEnded, inHeaders, expectingIn, expecting}
 use Rattle.stream.specs.Packets.{Seen, measuresOf, samplesOf}
 use Rattle.stream.specs.Rules.{granuleMost, audioCompletes, startOn, afterPhase, afterPosition, nextOn, verdict}

@@ -17,7 +17,8 @@ use Rattle.granule.specs.declared.Position.the-variants.{Unset, Joined, At}
 use Rattle.granule.specs.Judging.{tooSmall, from}
 use Rattle.stream.specs.declared.Phase.the-variants.{Audio, Ended}
 use Rattle.stream.specs.Page.{pageOf, last, granuleOf}
-use Rattle.stream.specs.Readings.{Measure, Readings}
+use Rattle.packet_reader.specs.declared.Measure.{Measure}
+use Rattle.stream.specs.Readings.{Readings}
 use Rattle.stream.specs.State.{Carried, nothing, dropped, held, State, unfinished}
 use Rattle.stream.specs.Packets.{Seen, begun, join, isLong, audioPackets, measuresOf, samplesOf}
 use Rattle.stream.specs.Rules.{packetChecks, timeChecks, checksOn, stamps, startOn, stampsOn}

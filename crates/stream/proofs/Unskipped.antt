@@ -15,7 +15,8 @@ use Rattle.granule.proofs.Tallies.{tally-same, tally-none}
 use Rattle.stream.specs.declared.Phase.{Phase}
 use Rattle.stream.specs.declared.Phase.the-variants.{First, Comment, Audio, Opened, Ended}
 use Rattle.stream.specs.Page.{Page, pageOf, last, granuleOf}
-use Rattle.stream.specs.Readings.{Measure, Readings}
+use Rattle.packet_reader.specs.declared.Measure.{Measure}
+use Rattle.stream.specs.Readings.{Readings}
 use Rattle.stream.specs.State.{State, isFirst, expectingIn, expecting}
 use Rattle.stream.specs.Packets.{Seen, measuresOf, samplesOf}
 use Rattle.stream.specs.Rules.{nextOn, startOn, afterPhase, verdict}

@@ -43,8 +43,8 @@ pub record Entrance (p : Page) : Type 0 where
   pub completes : completes p ≡ true
   pub goes : last p ≡ false
 
--- r is among the audio pages, whatever its granule position, and takes the page: so does s, with the same stamps and lengths,
--- and their states after it are equal but for the shift
+-- r is among the audio pages, whatever its granule position, and takes the page: so does s, with the same stamps, lengths
+-- and frames, and their states after it are equal but for the shift
 abbrev pub Enters : Type 0
 Enters =
     (R : Readings) (n : ℕ) (r s : Reader) (f g : Feeding) (t : Taken) → r .core .phase ≡ Audio → r .core .next < 2 ^ 32

@@ -1,5 +1,5 @@
 -- Starting, opening part way and feeding: what each tells, the next reader, and the end contents of the carry buffer and of the
--- three lists, for any reader, bytes and lent memory (RULES.md, 7). Assumes nothing.
+-- four lists, for any reader, bytes and lent memory (RULES.md, 7). Assumes nothing.
 use Prim.Native.Nat.{ℕ, _+_, _-_, _%_, _^_}
 use mathlib.Core.Path.{_≡_}
 use mathlib.Core.Bool.{Bool, not, _||_}
@@ -30,7 +30,8 @@ use Rattle.stream.specs.declared.PageFed.{PageFed}
 use Rattle.stream.specs.declared.PageFed.the-variants.{Accepted, Refused}
 use Rattle.stream.specs.Lent.{Lent, lentOf, withCarry, isShort}
 use Rattle.stream.specs.Page.{Page, pageOf, last, granuleOf, whole, rest}
-use Rattle.stream.specs.Readings.{Measure, Readings}
+use Rattle.packet_reader.specs.declared.Measure.{Measure}
+use Rattle.stream.specs.Readings.{Readings}
 use Rattle.stream.specs.State.{Carried, nothing, dropped, held, State, isComment, expecting}
 use Rattle.stream.specs.Packets.{Seen, seen, measuresOf, samplesOf}
 use Rattle.stream.specs.Rules.{audioCompletes, checksOn, Stamp, startOn, nextOn}
@@ -113,19 +114,20 @@ openChecks h = UnfitFields when not (rightHead h) ∷ []
 unfoldable pub openPartWay : Head → Told Reader
 openPartWay h = decided (firstOf (openChecks h)) (openAt h)
 
--- ---- the packets that a page lists: end stamp, length in samples, kept count
+-- ---- the packets that a page lists: end stamp, length in samples, frames, kept count
 
 pub record Entry : Type 0 where
   pub end : ℕ
   pub samples : ℕ
+  pub frames : ℕ
   pub kept : ℕ
 
 abbrev pub stampOf : Entry → Stamp
-stampOf e = record { end = e .end; samples = e .samples }
+stampOf e = record { end = e .end; samples = e .samples; frames = e .frames }
 
 -- a packet of this measure that begins after `at`
 abbrev pub entryOf : ℕ → Measure → ℕ → Entry
-entryOf at m kept = record { end = at + m .samples; samples = m .samples; kept = kept }
+entryOf at m kept = record { end = at + m .samples; samples = m .samples; frames = m .frames; kept = kept }
 
 -- packets of these measures on a page with granule g, the first beginning after `at` with `skip` samples still to skip
 unfoldable pub entries : ℕ → Bool → ℕ → ℕ → List Measure → List Entry
@@ -231,6 +233,7 @@ withEntries es m =
     (listed (λ (e : Entry). e .end) es (m .ends))
     (listed (λ (e : Entry). e .samples) es (m .lengths))
     (listed (λ (e : Entry). e .kept) es (m .kept))
+    (listed (λ (e : Entry). e .frames) es (m .frames))
 
 -- ---- feeding
 

@@ -118,7 +118,7 @@ OthersRefused R r [] = Unit {0}
 OthersRefused R r (m ∷ ms) =
     T (m .mark || isRefused (feedIn R r (m .fed) .told)) × OthersRefused R (readerAfter R r (m .fed)) ms
 
--- what a feeding tells, without the kept counts: the stamps and lengths that it lists, or a number
+-- what a feeding tells, without the kept counts: the stamps, lengths and frames that it lists, or a number
 abbrev pub tell : Fed → Told (List Stamp)
 tell f = retold (λ (t : Taken). map stampOf (f .entries)) (f .told)
 

@@ -10,7 +10,8 @@ use Rattle.octets.specs.Octets.{Bytes}
 use Rattle.limits.specs.Limits.{packetMax}
 use Rattle.page_lacing.specs.Lacing.{endedFrom, unfinishedFrom}
 use Rattle.stream.specs.Page.{Page, whole, rest}
-use Rattle.stream.specs.Readings.{Measure, Readings}
+use Rattle.packet_reader.specs.declared.Measure.{Measure}
+use Rattle.stream.specs.Readings.{Readings}
 use Rattle.stream.specs.State.{Carried, nothing, dropped, held, State, inHeaders}
 
 -- ---- the packets of a page

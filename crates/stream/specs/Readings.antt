@@ -11,11 +11,8 @@ use Rattle.head_reader.specs.Fields.{headOf}
 use Rattle.head_fields.specs.Right.{rightMapping}
 use Rattle.head_reader.specs.Reading.{isHead}
 use Rattle.tags_reader.specs.Right.{isTags}
-use Rattle.packet_reader.specs.Streams.{lengthsOf, isIllegal, isMixed, firstLength}
-
--- what feeding lists of a packet, but for what its page tells
-pub record Measure : Type 0 where
-  pub samples : ℕ  -- its length in samples at 48 kHz
+use Rattle.packet_reader.specs.declared.Measure.{Measure}
+use Rattle.packet_reader.specs.Streams.{measuredOf, isIllegal, isMixed, firstContents}
 
 pub record Readings : Type 0 where
   pub isPage : Bytes → Bool  -- exactly one whole page, of version 0 (3)
@@ -26,7 +23,7 @@ pub record Readings : Type 0 where
   pub isTags : Bytes → Bool  -- a right comment header (14)
   pub isLegal : ℕ → Bytes → Bool  -- an audio packet of so many streams is legal (15)
   pub isMixed : ℕ → Bytes → Bool  -- its Opus packets differ in length (16)
-  pub measureOf : ℕ → Bytes → Measure
+  pub measureOf : ℕ → Bytes → Measure  -- what feeding lists of it: its length in samples, and its frames
 
 -- The real ones; how a page's checksum is worked out is a parameter still, as where pages are read. A reader that has its
 -- headers has 1 to 255 streams; the number 0 is read as 1.
@@ -38,7 +35,7 @@ readings crc = record {
   isMapped = λ (b : Bytes). rightMapping (headOf b);
   headOf = headOf;
   isTags = isTags;
-  isLegal = λ (n : ℕ) (b : Bytes). not (isIllegal (lengthsOf (n - 1) b));
-  isMixed = λ (n : ℕ) (b : Bytes). isMixed (lengthsOf (n - 1) b);
-  measureOf = λ (n : ℕ) (b : Bytes). record { samples = firstLength (lengthsOf (n - 1) b) };
+  isLegal = λ (n : ℕ) (b : Bytes). not (isIllegal (measuredOf (n - 1) b));
+  isMixed = λ (n : ℕ) (b : Bytes). isMixed (measuredOf (n - 1) b);
+  measureOf = λ (n : ℕ) (b : Bytes). firstContents (measuredOf (n - 1) b) .measure;
 }

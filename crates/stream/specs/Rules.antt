@@ -20,7 +20,8 @@ use Rattle.stream.specs.declared.Phase.the-variants.{First, Comment, Aud
 use Rattle.page_flags.specs.Flags.{isFirstPage, isLastPage}
 use Rattle.page_layout.specs.declared.PageHeader.{PageHeader}
 use Rattle.stream.specs.Page.{Page, pageOf, continued, last, granuleOf}
-use Rattle.stream.specs.Readings.{Measure, Readings}
+use Rattle.packet_reader.specs.declared.Measure.{Measure}
+use Rattle.stream.specs.Readings.{Readings}
 use Rattle.stream.specs.State.{State, isFirst, isComment, isEnded, inHeaders, unfinished, expecting}
 use Rattle.stream.specs.Shape.{shapeOf, wrongShape}
 use Rattle.stream.specs.Packets.{Seen, seen, isLong, audioPackets, measuresOf, samplesOf}
@@ -98,14 +99,20 @@ checksOn R s b x =
 
 -- ---- the stamps
 
+-- what is told of a packet but its kept count: where it ends, its length in samples, and its frames
 pub record Stamp : Type 0 where
   pub end : ℕ
   pub samples : ℕ
+  pub frames : ℕ
+
+-- of a packet of this measure that begins after a position
+abbrev pub stampAt : ℕ → Measure → Stamp
+stampAt at m = record { end = at + m .samples; samples = m .samples; frames = m .frames }
 
 -- of packets of these measures, the first beginning after a position
 unfoldable pub stamps : ℕ → List Measure → List Stamp
 stamps at [] = []
-stamps at (m ∷ ms) = record { end = at + m .samples; samples = m .samples } ∷ stamps (at + m .samples) ms
+stamps at (m ∷ ms) = stampAt at m ∷ stamps (at + m .samples) ms
 
 -- where the packets of the page begin
 unfoldable pub startOn : Readings → State → Page → Seen → ℕ

@@ -1,5 +1,5 @@
 -- Congruence of all that a feeding tells. Two readers have equal cores, each has its own lent memory, and the carry buffers
--- agree up to the held count. They are told the same number, stamps and lengths, and where their tallies are equal the same of
+-- agree up to the held count. They are told the same number, stamps, lengths and frames, and where their tallies are equal the same of
 -- everything. They stay so. Assumes nothing.
 use Prim.Native.Nat.{ℕ}
 use mathlib.Core.Path.{_≡_}
@@ -26,7 +26,7 @@ pub record Answer : Type 0 where
 abbrev pub answer : Fed → Answer
 answer f = record { told = f .told; entries = f .entries }
 
--- what the samples still to skip have no part in: the stamps and lengths, and the page's record but for what is kept and
+-- what the samples still to skip have no part in: the stamps, lengths and frames, and the page's record but for what is kept and
 -- skipped; or a number
 pub record Timing : Type 0 where
   pub stamps : List Stamp

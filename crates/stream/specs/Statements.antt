@@ -8,11 +8,12 @@ use Rattle.octets.specs.Octets.{Bytes, Octets, total}
 use Rattle.refusal.specs.declared.Refusal.the-variants.{BadHead, BadMapping, BadTags}
 use Rattle.refusal.specs.Checks.{Check, _when_, firstOf}
 use Rattle.refusal.specs.Numbers.{numberOf}
-use Rattle.refusal.specs.Told.{gives, refuses, decided}
+use Rattle.refusal.specs.Told.{gives, refuses, decided, retold}
 use Rattle.page_reader.specs.Reading.{readPage}
 use Rattle.head_reader.specs.Reading.{readHead}
 use Rattle.tags_layout.specs.Layout.{tagsOf}
 use Rattle.tags_reader.specs.Reading.{readTags}
+use Rattle.packet_reader.specs.declared.Contents.{Contents}
 use Rattle.packet_reader.specs.Streams.{readPacket}
 use Rattle.granule.specs.declared.Position.the-variants.{Unset}
 use Rattle.stream.specs.declared.Counts.{Counts}
@@ -40,6 +41,7 @@ pub record Keeps (r : Reader) (m e : Lent) (n : ℕ) : Type 0 where
   pub ends : e .ends ≡ m .ends
   pub lengths : e .lengths ≡ m .lengths
   pub kept : e .kept ≡ m .kept
+  pub frames : e .frames ≡ m .frames
 
 -- the reader stays by what is told, a number alone
 abbrev pub RefusalKeeps : Type 0
@@ -210,6 +212,7 @@ pub record Shows (m e : Lent) (es : List Entry) (c : Counts) : Type 0 where
   pub ends : HasFirst (m .ends) (e .ends) (map (λ (n : Entry). n .end) es)
   pub lengths : HasFirst (m .lengths) (e .lengths) (map (λ (n : Entry). n .samples) es)
   pub kept : HasFirst (m .kept) (e .kept) (map (λ (n : Entry). n .kept) es)
+  pub frames : HasFirst (m .frames) (e .frames) (map (λ (n : Entry). n .frames) es)
   pub room : length (e .carry) ≡ length (m .carry)
 
 abbrev pub AcceptedShows : Type 0
@@ -228,8 +231,8 @@ pub record Agree (crc : Bytes → ℕ) : Type 0 where
   pub head : (b : Bytes) → decided (firstOf (headChecks (readings crc) b)) (readings crc .headOf b) ≡ readHead b
   pub tags : (b : Bytes) → decided (firstOf (BadTags when not (readings crc .isTags b) ∷ [])) (tagsOf b) ≡ readTags b
   pub packet : (b : Bytes) (n : ℕ) → 1 ≤ n → n ≤ 255
-      → decided (firstOf (packetChecks (readings crc) n (b ∷ []))) (readings crc .measureOf n b .samples)
-      ≡ readPacket b n
+      → decided (firstOf (packetChecks (readings crc) n (b ∷ []))) (readings crc .measureOf n b)
+      ≡ retold (λ (c : Contents). c .measure) (readPacket b n)
 
 abbrev pub ReadingsAgree : Type 0
 ReadingsAgree = (crc : Bytes → ℕ) → Agree crc

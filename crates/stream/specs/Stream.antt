@@ -17,7 +17,8 @@ use Rattle.stream.specs.declared.Counts.{Counts}
 use Rattle.stream.specs.declared.Phase.{Phase}
 use Rattle.stream.specs.declared.Phase.the-variants.{First, Comment, Audio, Ended}
 use Rattle.stream.specs.Page.{Page, pageOf, last, granuleOf, completes}
-use Rattle.stream.specs.Readings.{Measure, Readings}
+use Rattle.packet_reader.specs.declared.Measure.{Measure}
+use Rattle.stream.specs.Readings.{Readings}
 use Rattle.stream.specs.State.{Carried, nothing, held}
 use Rattle.stream.specs.Packets.{samplesOf}
 use Rattle.stream.specs.Rules.{firstPacket, afterPosition}

@@ -115,7 +115,16 @@ fn feed_page(p: Progress, page: &[u8], carry: &mut [u8]) -> Progress {
     let mut ends = [0u64; LIST_MAX];
     let mut lengths = [0u64; LIST_MAX];
     let mut kept = [0u64; LIST_MAX];
-    let fed = reader::feed(reader, page, carry, &mut ends, &mut lengths, &mut kept);
+    let mut frames = [0u64; LIST_MAX];
+    let fed = reader::feed(
+        reader,
+        page,
+        carry,
+        &mut ends,
+        &mut lengths,
+        &mut kept,
+        &mut frames,
+    );
     fed_page(p, fed, page_layout::body_of(page))
 }
 

@@ -6,6 +6,7 @@ use borrow.Author.Needs.{needs}
 use denote.Ref.{now}
 use Rattle.granule.specs.declared.Position.the-variants.{At}
 use Rattle.stream.specs.declared.Pending.{Pending}
+use Rattle.stream.specs.Lent.{Lent, lentOf}
 use Rattle.feed_audio.specs.declared.times.Timed.the-variants.{Packets, Refused}
 use Rattle.feed_audio.specs.Code.{nextCore}
 use Rattle.feed_audio.proofs.Pages.{completing-refused, completing-accepted, place-trimmed}
@@ -16,25 +17,30 @@ use Rattle.feed_audio.proofs.feed_completing.Tie as tie
 few : (c : tie.Start) → c .args .core .streams ≤ 255
 few c = let small = c .good .0 .1 .1 .1 .1 .1 .0 in omega arith
 
+-- what is lent
+abbrev lent : tie.Start → Lent
+lent s = lentOf (now (s .args .carry)) (now (s .args .ends)) (now (s .args .lengths)) (now (s .args .kept)) (now (s .args .frames))
+
 list-packets-requires : tie.Need-list-packets-requires
 list-packets-requires c κs =
-    let got = c .before .before .before .before .before .before in
+    let got = c .before .before .before .before .before .before .before in
     let done = got .before .before .before in
-    let st = done .before .before .before .before .before .before .before .before .before .before .before .before .before in
+    let st = done .before .before .before .before .before .before .before .before .before .before .before .before .before .before in
     let q : done .time-page .result ≡ Packets (got .count .given .0 .0) (got .count .given .0 .1 .0) (got .count .given .0 .1 .1 .0) = got .count .given .1 in
     let m = rw q at (done .time-page .ensures) in
-    let size = got .before .before .lens2 .given in
+    let size = got .before .before .measures2 .given in
     record {
-      lens = m .runs .few;
+      measures = m .runs .few;
       ends = omega (arith, m .runs .few, size, st .pre .fitting .ends);
       lengths = omega (arith, m .runs .few, size, st .pre .fitting .lengths);
       kept = omega (arith, m .runs .few, size, st .pre .fitting .kept);
+      frames = omega (arith, m .runs .few, size, st .pre .fitting .frames);
       fits = m .runs .fits;
     }
 
 counts-of-requires : tie.Need-counts-of-requires
 counts-of-requires c κs =
-    let marked = c .before .before .before .before .before .before .before .before .before .before .before .before .before .before .before in
+    let marked = c .before .before .before .before .before .before .before .before .before .before .before .before .before .before .before .before .before .before in
     let got = marked .before .before in
     let done = got .before .before .before in
     let q : done .time-page .result ≡ Packets (got .count .given .0 .0) (got .count .given .0 .1 .0) (got .count .given .0 .1 .1 .0) = got .count .given .1 in
@@ -44,25 +50,25 @@ returns : tie.Need-returns
 returns c crc =
     let done = c .before .before .before .before in
     let joined = done .before .before .before .before .before in
-    let st = joined .before .before .before .before .before .before .before .before in
+    let st = joined .before .before .before .before .before .before .before .before .before in
     let a = st .args in
     let q : done .time-page .result ≡ Refused (c .before .why .given .0 .0) = c .before .why .given .1 in
-    completing-refused crc (a .core) (a .tally) (a .h) (now (a .lacing)) (now (a .body)) (now (a .carry)) (now (a .ends)) (now (a .lengths)) (now (a .kept))
+    completing-refused crc (a .core) (a .tally) (a .h) (now (a .lacing)) (now (a .body)) (lent st)
     (st .pre) (few st) (joined .append .ensures) (rw q at (done .time-page .ensures))
 
 returns-2 : tie.Need-returns-2
 returns-2 c crc =
     let core = c .before in
     let kept-rest = core .before .before .before .before .before in
-    let lists = kept-rest .before .before .before .before .before .before .before .before in
-    let marked = lists .before .before .before .before .before in
+    let lists = kept-rest .before .before .before .before .before .before .before .before .before .before in
+    let marked = lists .before .before .before .before .before .before in
     let got = marked .before .before in
     let done = got .before .before .before in
     let joined = done .before .before .before .before .before in
-    let st = joined .before .before .before .before .before .before .before .before in
+    let st = joined .before .before .before .before .before .before .before .before .before in
     let a = st .args in
     let q : done .time-page .result ≡ Packets (got .count .given .0 .0) (got .count .given .0 .1 .0) (got .count .given .0 .1 .1 .0) = got .count .given .1 in
-    completing-accepted crc (a .core) (a .tally) (a .h) (now (a .lacing)) (now (a .body)) (now (a .carry)) (now (a .ends)) (now (a .lengths)) (now (a .kept))
+    completing-accepted crc (a .core) (a .tally) (a .h) (now (a .lacing)) (now (a .body)) (lent st)
     (st .pre) (few st) (joined .append .ensures) (rw q at (done .time-page .ensures))
     (rw (marked .is-last-page .ensures) at (lists .list-packets .ensures))
     (kept-rest .keep-rest .ensures)
@@ -76,10 +82,11 @@ feed-completing-spec =
     (tie.spec
     (λ c κs. search needs) (λ c. search needs) (λ c κs. search needs) (λ c. search needs) (λ c. search needs) (λ c κs. search needs)
     (λ c. search needs) list-packets-requires
-    (λ c κs. c .before .before .before .before .before .before .before .before .before .before .before .before .before .before .before .before .before .before .before .before .before .before .before .before .before .before .before .before .before .before .pre .left)
+    (λ c κs. c .before .before .before .before .before .before .before .before .before .before .before .before .before .before .before .before .before .before .before .before .before .before .before .before .before .before .before .before .before .before .before .before .before .before .pre .left)
     counts-of-requires (λ c κs. search needs) (λ c κs. search needs) (λ c κs. search needs)
     (λ c. search needs) returns
-    (λ c. c .before .before .before .before .before .carry2 .given ∙ c .before .before .before .before .before .before .before .before .before .before .before .before .before .before .before .before .before .before .before .before .before .before .before .before .before .before .before .before .carry .given)
-    (λ c. c .before .before .before .before .before .before .before .before .before .before .before .before .before .ends .given)
-    (λ c. c .before .before .before .before .before .before .before .before .before .before .before .lengths .given)
-    (λ c. c .before .before .before .before .before .before .before .before .before .kept .given) returns-2)
+    (λ c. c .before .before .before .before .before .carry2 .given ∙ c .before .before .before .before .before .before .before .before .before .before .before .before .before .before .before .before .before .before .before .before .before .before .before .before .before .before .before .before .before .before .before .carry .given)
+    (λ c. c .before .before .before .before .before .before .before .before .before .before .before .before .before .before .before .ends .given)
+    (λ c. c .before .before .before .before .before .before .before .before .before .before .before .before .before .lengths .given)
+    (λ c. c .before .before .before .before .before .before .before .before .before .before .before .kept .given)
+    (λ c. c .before .before .before .before .before .before .before .before .before .frames .given) returns-2)

@@ -17,10 +17,10 @@ use Rattle.feed_page.proofs.feed_read.Tie as tie
 
 -- where the function starts, and what is lent to it
 abbrev start : tie.After-page-due → tie.Start
-start c = c .before .before .before .before .before .before
+start c = c .before .before .before .before .before .before .before
 
 abbrev lent : tie.Start → Lent
-lent s = lentOf (now (s .args .carry)) (now (s .args .ends)) (now (s .args .lengths)) (now (s .args .kept))
+lent s = lentOf (now (s .args .carry)) (now (s .args .ends)) (now (s .args .lengths)) (now (s .args .kept)) (now (s .args .frames))
 
 -- what 3 to 8 found
 abbrev checked : (Bytes → ℕ) → tie.Start → Due → Type 0
@@ -30,14 +30,14 @@ checked crc s d = DueIs d (readings crc) (s .args .core) (s .args .tally) (lent 
 few : (c : tie.After-lacing-of) → length (now (c .lacing-of .result)) ≤ 255
 unfolding lacingOf
 few c =
-    let known = c .before .before .before .before .before .before .before .before .before in
+    let known = c .before .before .before .before .before .before .before .before .before .before in
     let page = now (known .before .args .page) in
     omega (arith, ap length (c .lacing-of .ensures), length-take (countOf page) (drop 27 page), known .shared-slice-known .given 26)
 
 returns : tie.Need-returns
 returns c crc u =
-    let call = c .before .before .before .before .before .before .before .before .before in
-    let then = call .before .before .before .before .before in
+    let call = c .before .before .before .before .before .before .before .before .before .before .before in
+    let then = call .before .before .before .before .before .before in
     let body = then .before .before in
     let lacing = body .before in
     let arm = lacing .before .before in
@@ -72,4 +72,4 @@ feed-read-spec =
     tie.close
     (tie.spec
     (λ c κs. search needs) (λ c. search needs) (λ c κs. search needs) (λ c κs. search needs) (λ c κs. search needs) (λ c κs. search needs) (λ c κs. search needs)
-    (λ c. search needs) (λ c. search needs) (λ c. search needs) (λ c. search needs) returns (λ c κs. search needs) (λ c κs. search needs) (λ c. search needs) (λ c. search needs) returns-2 returns-3)
+    (λ c. search needs) (λ c. search needs) (λ c. search needs) (λ c. search needs) (λ c. search needs) returns (λ c κs. search needs) (λ c κs. search needs) (λ c. search needs) (λ c. search needs) returns-2 returns-3)

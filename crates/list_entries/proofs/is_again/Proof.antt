@@ -14,7 +14,7 @@ returns-2 c =
 
 returns-3 : tie.Need-returns-3
 returns-3 c =
-    let a = c .before .before .before .before .before .before .before .args in
+    let a = c .before .before .before .before .before .before .before .before .args in
     rw (lt-ltb 0 (a .c .digits) (omega arith), le-leb (a .c .base) (a .end) (omega arith))
 
 pub is-again-spec : {M : Type 1} → statement M

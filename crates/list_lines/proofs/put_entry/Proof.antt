@@ -1,4 +1,4 @@
--- `list_lines::put_entry` meets its contract: three numbers, each with a byte after it. Assumes nothing.
+-- `list_lines::put_entry` meets its contract: four numbers, each with a byte after it. Assumes nothing.
 use mathlib.Core.Path.{sym, _∙_}
 use Prim.Native.Nat.{_+_, _≤_}
 use native.Mathlib.Omega.{arith}
@@ -16,21 +16,23 @@ returns : tie.Need-returns
 returns c = put-none (sym (c .before .lacks-entry .ensures) ∙ c .if1 .taken)
 
 -- the line fits
-fits : (c : tie.Else1) → let a = c .before .before .before .args in a .at + length (entryLine (a .end) (a .samples) (a .kept)) ≤ length (now (a .out))
+fits : (c : tie.Else1) → let a = c .before .before .before .args in a .at + length (entryLine (a .end) (a .samples) (a .frames) (a .kept)) ≤ length (now (a .out))
 fits c = ltb-false _ _ (sym (c .before .lacks-entry .ensures) ∙ c .if1 .left)
 
 returns-2 : tie.Need-returns-2
 returns-2 c =
-    let third = c .before .before in
+    let fourth = c .before .before in
+    let third = fourth .before .before .before .before in
     let second = third .before .before .before .before in
     let first = second .before .before .before .before in
     let test = first .before .before in
     let a = test .before .before .before .args in
     put-laid (fits test)
-    (laid-entry (a .end) (a .samples) (a .kept) (first .put-ended .ensures) (second .put-ended2 .ensures) (third .put-ended3 .ensures) (fits test))
+    (laid-entry (a .end) (a .samples) (a .frames) (a .kept)
+    (first .put-ended .ensures) (second .put-ended2 .ensures) (third .put-ended3 .ensures) (fourth .put-ended4 .ensures) (fits test))
 
 pub put-entry-spec : {M : Type 1} → statement M
 put-entry-spec =
     tie.close
     (tie.spec
-    (λ c κs. tt) returns (λ c κs. tt) (λ c κs. tt) (λ c κs. tt) (λ c. omega arith) returns-2)
+    (λ c κs. tt) returns (λ c κs. tt) (λ c κs. tt) (λ c κs. tt) (λ c κs. tt) (λ c. omega arith) returns-2)

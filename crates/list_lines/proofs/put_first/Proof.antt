@@ -1,4 +1,4 @@
--- `list_lines::put_first` meets its contract: a copy of 13 bytes. Assumes nothing.
+-- `list_lines::put_first` meets its contract: a copy of 20 bytes. Assumes nothing.
 use mathlib.Core.Path.{refl, sym, _∙_}
 use Prim.Native.Nat.{_+_, _≤_}
 use native.Mathlib.Omega.{arith}
@@ -15,7 +15,7 @@ returns : tie.Need-returns
 unfolding firstLine
 returns c = put-none (sym (c .before .is-short .ensures) ∙ c .if1 .taken)
 
-fits : (c : tie.Else1) → c .before .before .before .args .at + 13 ≤ length (now (c .before .before .before .args .out))
+fits : (c : tie.Else1) → c .before .before .before .args .at + 20 ≤ length (now (c .before .before .before .args .out))
 fits c = ltb-false _ _ (sym (c .before .is-short .ensures) ∙ c .if1 .left)
 
 add-result : tie.Need-add-result
@@ -25,7 +25,7 @@ returns-2 : tie.Need-returns-2
 unfolding firstLine
 returns-2 c =
     let test = c .before .before .before .before .before in
-    put-all (sym (test .before .is-short .ensures) ∙ test .if1 .left) (laid-as 13 refl refl (c .before .before .copy-at .ensures))
+    put-all (sym (test .before .is-short .ensures) ∙ test .if1 .left) (laid-as 20 refl refl (c .before .before .copy-at .ensures))
 
 pub put-first-spec : {M : Type 1} → statement M
 put-first-spec =

@@ -1,7 +1,6 @@
 -- `packet_frames::packet_frames` meets its contract: by how the frames lie. Assumes nothing.
 use mathlib.Core.Path.{_≡_, sym, ap, _∙_}
 use mathlib.Core.Bool.{Bool, true, false}
-use Prim.Native.Nat.{ℕ}
 use borrow.Author.Needs.{needs}
 use denote.Ref.{now}
 use lib.ListN.{drop}
@@ -9,7 +8,7 @@ use Rattle.octets.specs.Octets.{Bytes}
 use Rattle.packet_frames.specs.declared.Layout.{Layout}
 use Rattle.packet_frames.specs.Frames.{Read}
 use Rattle.packet_frames.specs.Packet.{parse}
-use Rattle.packet_frames.specs.Code.{plain, toldLayout, FramesIn, framesIn, outline}
+use Rattle.packet_frames.specs.Code.{plain, toldLayout, FramesIn, framesIn, Outline, outline}
 use Rattle.packet_frames.proofs.Outlines.{outlined}
 use Rattle.packet_frames.proofs.packet_frames.Statement.{statement}
 use Rattle.packet_frames.proofs.packet_frames.Tie as tie
@@ -26,7 +25,7 @@ module _ (c : tie.After-layout) where
   frames self = ap (framesIn self) (c .before .before .layout-of .ensures .told) ∙ sym (outlined self packet)
 
   -- a packet that is not self-delimited, with lengths of their own or not
-  plainly : {delimited vary : Bool} {x : Read ℕ} → delimited ≡ false → c .layout .given .0 .1 .0 ≡ vary
+  plainly : {delimited vary : Bool} {x : Read Outline} → delimited ≡ false → c .layout .given .0 .1 .0 ≡ vary
       → x ≡ framesIn false (plain (c .layout .given .0 .0) vary (c .layout .given .0 .1 .1 .0) (drop (c .layout .given .0 .1 .1 .1 .0) packet))
       → x ≡ outline (parse delimited packet)
   plainly d v e =

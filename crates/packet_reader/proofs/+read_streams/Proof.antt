@@ -11,12 +11,12 @@ use lib.ListN.{length, drop, length-drop}
 use lib.Seq.{take-all}
 use Rattle.octets.specs.Octets.{Bytes}
 use Rattle.packet_reader.specs.Code.{joined, agreed}
-use Rattle.packet_reader.specs.Streams.{lengthsOf}
-use Rattle.packet_reader.proofs.Agreement.{unmeasured, length-told, end-told, broken-first, only-one, and-later}
+use Rattle.packet_reader.specs.Streams.{measuredOf}
+use Rattle.packet_reader.proofs.Agreement.{unread, contents-told, end-told, broken-first, only-one, and-later}
 use Rattle.packet_reader.proofs.read_streams.Reads as read-streams
 use Rattle.packet_reader.proofs.read_streams.Kinds as read-streams-kinds
 use Rattle.packet_reader.proofs.+read_streams.Lts-read_streams as lts
-use Rattle.packet_reader.proofs.packet_samples.Reads as packet-samples-reads
+use Rattle.packet_reader.proofs.read_opus.Reads as read-opus-reads
 use Rattle.packet_reader.proofs.with_first.Reads as with-first-reads
 use Rattle.packet_reader.proofs.+read_streams.{statement}
 use Rattle.packet_reader.proofs.+read_streams.Tie.{close}
@@ -34,18 +34,18 @@ pub +read-streams-spec : {M : Type 1} → statement M
 +read-streams-spec =
     close μ-read-streams
     (λ t. lts.spec
-    (packet-samples-reads.Asked, packet-samples-reads.Learnt, below-streams t, read-streams.Post, with-first-reads.Asked, with-first-reads.Learnt)
+    (read-opus-reads.Asked, read-opus-reads.Learnt, below-streams t, read-streams.Post, with-first-reads.Asked, with-first-reads.Learnt)
     (at-streams t) read-streams.Post
     (λ c κs. search needs) (λ c. search needs) (λ c. search needs)
     (λ c.
     let a = c .before .before .before .before .args in
-    broken-first (now (a .s)) (a .streams) (unmeasured (now (a .s)) (c .before .before .packet-samples .ensures) (c .enum-told .given .1)))
+    broken-first (now (a .s)) (a .streams) (unread (now (a .s)) (c .before .before .read-opus .ensures) (c .enum-told .given .1)))
     (λ c.
     let k = c .before .before in
     let a = k .before .before .before .before .args in
-    only-one (now (a .s)) (a .streams) _ _ (c .if1 .taken) (length-told (now (a .s)) (k .before .before .packet-samples .ensures) (k .samples .given .1)))
-    (λ c. let k = c .before .before in end-told _ (k .before .before .packet-samples .ensures) (k .samples .given .1))
-    (λ c. let k = c .before .before in end-told _ (k .before .before .packet-samples .ensures) (k .samples .given .1))
+    only-one (now (a .s)) (a .streams) _ _ (c .if1 .taken) (contents-told (now (a .s)) (k .before .before .read-opus .ensures) (k .first .given .1)))
+    (λ c. let k = c .before .before in end-told _ (k .before .before .read-opus .ensures) (k .first .given .1))
+    (λ c. let k = c .before .before in end-told _ (k .before .before .read-opus .ensures) (k .first .given .1))
     (λ c. omega arith)
     (λ c. omega arith)
     (λ c κs. (omega arith, tt))
@@ -53,9 +53,9 @@ pub +read-streams-spec : {M : Type 1} → statement M
     (λ c.
     let k = c .before .before .before .before .before in
     let a = k .before .before .before .before .args in
-    let told = k .before .before .packet-samples .ensures in
-    let n : ℕ = k .samples .given .0 .1 .0 in
+    let told = k .before .before .read-opus .ensures in
+    let n : ℕ = k .first .given .0 .1 .0 in
     let rest = take-all (length (now (a .s)) - n) (drop n (now (a .s))) (le-of-eq (length-drop n (now (a .s)))) in
     c .with-first .ensures
-    ∙ ap (joined (k .samples .given .0 .0)) (c .before .read-streams .ensures ∙ ap (λ (s : Bytes). agreed (lengthsOf (a .streams - 1 - 1) s)) rest)
-    ∙ and-later (now (a .s)) (a .streams) (k .samples .given .0 .0) (drop n (now (a .s))) (c .before .before .before .if1 .left) (length-told (now (a .s)) told (k .samples .given .1))))
+    ∙ ap (joined (k .first .given .0 .0)) (c .before .read-streams .ensures ∙ ap (λ (s : Bytes). agreed (measuredOf (a .streams - 1 - 1) s)) rest)
+    ∙ and-later (now (a .s)) (a .streams) (k .first .given .0 .0) (drop n (now (a .s))) (c .before .before .before .if1 .left) (contents-told (now (a .s)) told (k .first .given .1))))

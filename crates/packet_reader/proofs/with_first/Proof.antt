@@ -6,11 +6,11 @@ use Rattle.packet_reader.proofs.with_first.Tie as tie
 
 returns-3 : tie.Need-returns-3
 returns-3 c =
-    rw (c .before .before .later .given .1, eq-eqb _ _ (c .if1 .taken))
+    rw (c .before .before .before .before .later .given .1, eq-eqb _ _ (c .if1 .taken))
 
 returns-4 : tie.Need-returns-4
 returns-4 c =
-    rw (c .before .before .later .given .1, ne-eqb _ _ (c .if1 .left))
+    rw (c .before .before .before .before .later .given .1, ne-eqb _ _ (c .if1 .left))
 
 pub with-first-spec : {M : Type 1} → statement M
 with-first-spec =

@@ -6,16 +6,18 @@ use borrow.Author.Needs.{needs}
 use lib.ListN.{length, drop, take}
 use Rattle.stream.specs.Page.{wholeFrom}
 use Rattle.feed_audio.specs.Code.{measuresIn, inFront, measured}
-use Rattle.feed_audio.proofs.Measuring.{Measuring, read-as, few-samples, fits, goes-on, refused, ends, all-measured}
+use Rattle.feed_audio.proofs.Measuring.{Measuring, read-as, packable, fits, goes-on, refused, ends, all-measured}
 use Rattle.feed_audio.proofs.packets.measure.Statement.{statement}
 use Rattle.feed_audio.proofs.packets.measure.Tie as tie
 
 abbrev Inv-loop : tie.InvT-loop
-Inv-loop lacing body from at streams lens₀ n d count₀ sum₀ start₀ bytes₀ i₀ lens count sum start bytes i =
-    Measuring streams lacing body (inFront (measuresIn (take n lens₀)) (measured streams (wholeFrom 0 (drop from lacing) (drop at body)))) n (length lens₀) from lens count sum start bytes i
+Inv-loop lacing body from at streams measures₀ n d count₀ sum₀ start₀ bytes₀ i₀ measures count sum start bytes i =
+    Measuring streams lacing body
+    (inFront (measuresIn (take n measures₀)) (measured streams (wholeFrom 0 (drop from lacing) (drop at body)))) n
+    (length measures₀) from measures count sum start bytes i
 
 abbrev μ-loop : tie.MeasureT-loop
-μ-loop lacing body from at streams lens₀ n d count₀ sum₀ start₀ bytes₀ i₀ lens count sum start bytes i = length lacing - i
+μ-loop lacing body from at streams measures₀ n d count₀ sum₀ start₀ bytes₀ i₀ measures count sum start bytes i = length lacing - i
 
 loop-holds : tie.Need-loop-holds Inv-loop μ-loop
 loop-holds c = record { tells = refl; adds = c .before .before .before .pre .adds; small = omega arith; few = omega arith; within = omega arith; room = omega arith; size = refl }
@@ -40,16 +42,25 @@ returns c =
     refused (at .inv) (read .before .before .before .wide .ensures .same) (omega arith) (read .before .before .if1 .taken) _
     (read-as (read .read-packet-quick .ensures) (c .before .why .given .1))
 
+-- the measure that was read fits one number
+packed-requires : tie.Need-packed-requires Inv-loop μ-loop
+packed-requires c κs =
+    packable _ _ _ (read-as (c .before .before .before .before .read-packet-quick .ensures) (c .before .before .contents .given .1))
+
 add-sum : tie.Need-add-sum Inv-loop μ-loop
 add-sum c =
-    let few : c .before .s .given .0 .0 ≤ 5760 = few-samples _ _ _ (read-as (c .before .before .before .read-packet-quick .ensures) (c .before .s .given .1)) in
-    omega arith
+    let got = c .before .before .before .before in
+    let fit = packable _ _ _ (read-as (got .before .before .read-packet-quick .ensures) (got .contents .given .1)) in
+    omega (arith, fit .samples)
 
 loop-again : tie.Need-loop-again Inv-loop μ-loop
 loop-again c =
-    let at = c .before .before .before .before .before .before .before .before .before .loop in
-    ends (at .inv) (c .before .before .before .before .before .before .wide .ensures .same) (omega arith) (c .before .before .before .before .before .if1 .taken)
-    (read-as (c .before .before .before .read-packet-quick .ensures) (c .before .s .given .1)) (omega arith)
+    let got = c .before .before .before .before in
+    let if1 = got .before .before .before .before in
+    let at = if1 .before .before .before .before .loop in
+    rw (c .before .packed .ensures)
+    (ends (at .inv) (if1 .before .wide .ensures .same) (omega arith) (if1 .if1 .taken)
+    (read-as (got .before .before .read-packet-quick .ensures) (got .contents .given .1)) (omega arith))
 
 loop-again-2 : tie.Need-loop-again-2 Inv-loop μ-loop
 loop-again-2 c = goes-on (c .before .before .before .before .loop .inv) (c .before .wide .ensures .same) (omega arith) (c .if1 .left)
@@ -65,5 +76,5 @@ measure-spec =
     (tie.spec Inv-loop μ-loop
     loop-holds (λ c. omega arith) (λ c κs. tt) add-bytes (λ c. omega arith) add-end (λ c. omega arith)
     part-read-packet-quick-start part-read-packet-quick-end (λ c κs. tt) (λ c. search needs) (λ c. search needs) returns (λ c. search needs)
-    (λ c. omega arith) (λ c. omega arith) (λ c. omega arith) add-sum (λ c. omega arith) loop-again
+    packed-requires (λ c. omega arith) (λ c. omega arith) (λ c. omega arith) add-sum (λ c. omega arith) loop-again
     (λ c. omega arith) loop-again-2 (λ c. search needs) returns-2)

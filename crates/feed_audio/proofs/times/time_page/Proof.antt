@@ -2,7 +2,7 @@
 use mathlib.Core.Path.{_≡_}
 use borrow.Author.Needs.{needs}
 use Rattle.granule.specs.Judging.{toldJudged}
-use Rattle.feed_audio.specs.declared.packets.Lengths.the-variants.{All, Refused}
+use Rattle.feed_audio.specs.declared.packets.Measured.the-variants.{All, Refused}
 use Rattle.feed_audio.proofs.Timing.{judgedAs, unmeasured, unplaced, timed}
 use Rattle.feed_audio.proofs.times.time_page.Statement.{statement}
 use Rattle.feed_audio.proofs.times.time_page.Tie as tie
