@@ -145,7 +145,8 @@ pub record Meets : Type 0 where
   pub followed : Followed R F 1 M
   pub began : beganBefore R F 1 ≡ true
   pub position : hasPosition (drop 1 (audioIn R F)) ≡ true
-  pub told : toldAtMarks R (openedIn R F) M ≡ gives [] ∷ gives [] ∷ gives (record { end = 3480; samples = 480; frames = 1 } ∷ []) ∷ []
+  pub told : toldAtMarks R (openedIn R F) M
+      ≡ gives [] ∷ gives [] ∷ gives (record { end = 3480; samples = 480; frames = 1 } ∷ []) ∷ []
   pub marks : marks R (bytesOf (stream R start F)) ≡ audioMarks
   pub begins : initial audioMarks ≡ 520
   pub hole : holes audioMarks ≡ 1520

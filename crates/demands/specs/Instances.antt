@@ -70,7 +70,8 @@ ending = within Nothing (At 3000) 5 0
 pub record MeetsUnskipped : Type 0 where
   pub nothing : Unskipping ending
   pub accepted : (t : Taken) × (feed R ending (lentWith room) (written lastPage) .told ≡ gives t)
-  pub lists : feed R ending (lentWith room) (written lastPage) .entries ≡ record { end = 3480; samples = 480; frames = 1; kept = 100 } ∷ []
+  pub lists : feed R ending (lentWith room) (written lastPage) .entries
+      ≡ record { end = 3480; samples = 480; frames = 1; kept = 100 } ∷ []
 
 -- ---- CarryBuffer: 17 after a piece was put after the held bytes, and a page that begins a packet
 

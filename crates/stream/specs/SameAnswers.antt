@@ -1,6 +1,6 @@
 -- Congruence of all that a feeding tells. Two readers have equal cores, each has its own lent memory, and the carry buffers
--- agree up to the held count. They are told the same number, stamps, lengths and frames, and where their tallies are equal the same of
--- everything. They stay so. Assumes nothing.
+-- agree up to the held count. They are told the same number, stamps, lengths and frames, and where their tallies are equal the
+-- same of everything. They stay so. Assumes nothing.
 use Prim.Native.Nat.{ℕ}
 use mathlib.Core.Path.{_≡_}
 use mathlib.Core.Bool.{true}
