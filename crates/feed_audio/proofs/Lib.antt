@@ -1,5 +1,7 @@
 pub mod Turns
 pub mod Measuring
+pub mod Alike
+pub mod Repeated
 pub mod Listing
 pub mod Timing
 pub mod Splitting

@@ -6,14 +6,14 @@ use mathlib.Core.List.{List, [], _∷_, _++_, map, append-assoc, append-nil}
 use native.Mathlib.Numerals.{add-one}
 use native.Mathlib.Omega.{arith}
 use lib.ListN.{length, getD, take, drop, set, length-set, take-append-drop}
-use lib.Seq.{take-suc-set, drop-set-lt, drop-length, length-take-le}
+use lib.Seq.{take-suc-set, drop-set-lt, drop-length}
 use Rattle.granule.specs.Samples.{keptOf}
 use Rattle.packet_reader.specs.declared.Measure.{Measure}
 use Rattle.stream.specs.Lent.{lentOf}
 use Rattle.stream.specs.Packets.{samplesOf}
 use Rattle.stream.proofs.Lent.{same-lent}
 use Rattle.stream.specs.Feed.{Entry, entryOf, entries, listed}
-use Rattle.feed_audio.specs.Code.{unpacked, measuresIn, Lists}
+use Rattle.feed_audio.specs.Code.{unpacked, measuresIn, Placeable, Lists}
 use Rattle.feed_audio.proofs.Measuring.{length-measures}
 use Rattle.feed_lacing.proofs.Values.{next}
 
@@ -78,6 +78,15 @@ module _ {skip₀ : ℕ} {last : Bool} {g : ℕ} {goal : List Entry} {vs : List 
   pub fits-next : at + d < 2 ^ 64
   fits-next = omega (arith, samples-after, s .fits)
 
+  pub placeable : n ≤ length ends₀ → n ≤ length lengths₀ → n ≤ length kept₀ → n ≤ length frames₀ → Placeable i v at ends lengths kept frames
+  placeable p q r t = record {
+    ends = omega (arith, s .ended .size);
+    lengths = omega (arith, s .sized .size);
+    kept = omega (arith, s .keeps .size);
+    frames = omega (arith, s .framed .size);
+    fits = fits-next;
+  }
+
   pub lists : n ≤ length ends₀ → n ≤ length lengths₀ → n ≤ length kept₀ → n ≤ length frames₀
       → Listing skip₀ last g goal vs n ends₀ lengths₀ kept₀ frames₀ (set ends i (at + d)) (set lengths i d)
       (set kept i (keptOf left last g at d)) (set frames i (v % 64)) (at + d) (left - d) (i + 1)
@@ -108,12 +117,10 @@ all-listed {vs = vs} {n = n} {left = left} {i = i} s h =
       skips = omega (arith, rw z at (s .skips));
     }
 
-pub begins : (skip : ℕ) (last : Bool) (g from n : ℕ) (packed ends lengths kept frames : List ℕ) → n ≤ length packed
-    → from + samplesOf (measuresIn (take n packed)) < 2 ^ 64
-    → Listing skip last g (entries skip last g from (measuresIn (take n packed))) (take n packed) n
-    ends lengths kept frames ends lengths kept frames from skip 0
-begins skip last g from n packed ends lengths kept frames h fit =
-    let size : length (take n packed) ≡ n = length-take-le n packed h in
+pub begins : (skip : ℕ) (last : Bool) (g from n : ℕ) (vs ends lengths kept frames : List ℕ) → length vs ≡ n
+    → from + samplesOf (measuresIn vs) < 2 ^ 64
+    → Listing skip last g (entries skip last g from (measuresIn vs)) vs n ends lengths kept frames ends lengths kept frames from skip 0
+begins skip last g from n vs ends lengths kept frames size fit =
     record {
       ended = record { front = refl; rest = refl; size = refl };
       sized = record { front = refl; rest = refl; size = refl };
@@ -123,5 +130,5 @@ begins skip last g from n packed ends lengths kept frames h fit =
       fits = fit;
       within = omega arith;
       count = size;
-      goals = length-entries skip last g from (measuresIn (take n packed)) ∙ length-measures (take n packed) ∙ size;
+      goals = length-entries skip last g from (measuresIn vs) ∙ length-measures vs ∙ size;
     }

@@ -48,7 +48,7 @@ length-measures [] = refl
 length-measures (v ∷ vs) = ap suc (length-measures vs)
 
 -- a measure in one number, and back
-packs : (m : Measure) → Packable m → unpacked (packedOf m) ≡ m
+pub packs : (m : Measure) → Packable m → unpacked (packedOf m) ≡ m
 packs m p =
     let a : (m .samples * 64 + m .frames) / 64 ≡ m .samples = omega (arith, p .frames) in
     let b : (m .samples * 64 + m .frames) % 64 ≡ m .frames = omega (arith, p .frames) in
@@ -61,13 +61,13 @@ stored vs n m h p =
     ap measuresIn (rw (add-one n) (take-suc-set vs n (packedOf m) h)) ∙ measures-snoc (take n vs) (packedOf m)
     ∙ ap (λ (x : Measure). measuresIn (take n vs) ++ (x ∷ [])) (packs m p)
 
-in-front-again : (ms : List Measure) (m : Measure) (t : Told (List Measure))
+pub in-front-again : (ms : List Measure) (m : Measure) (t : Told (List Measure))
     → inFront ms (andLater (gives m) t) ≡ inFront (ms ++ (m ∷ [])) t
 in-front-again ms m (gives later) = rw append-assoc
 in-front-again ms m (refuses n) = refl
 
 -- the measures of what is left, `bytes` of the values already read
-abbrev ahead : ℕ → ℕ → List ℕ → Bytes → Told (List Measure)
+abbrev pub ahead : ℕ → ℕ → List ℕ → Bytes → Told (List Measure)
 ahead streams bytes l body = measured streams (wholeFrom bytes l body)
 
 -- one value more
@@ -79,21 +79,21 @@ whole-ends : (n v : ℕ) (l : List ℕ) (body : Bytes) → v < 255 → wholeFrom
 unfolding cutFrom
 whole-ends n v l body h = ap (λ (t : Bool). onwards t (n + v) l body .whole) (lt-ltb v 255 h)
 
-ahead-more : (streams bytes v : ℕ) (l : List ℕ) (body : Bytes) → 255 ≤ v → ahead streams bytes (v ∷ l) body ≡ ahead streams (bytes + v) l body
+pub ahead-more : (streams bytes v : ℕ) (l : List ℕ) (body : Bytes) → 255 ≤ v → ahead streams bytes (v ∷ l) body ≡ ahead streams (bytes + v) l body
 ahead-more streams bytes v l body h = ap (measured streams) (whole-more bytes v l body h)
 
-ahead-ends : (streams bytes v : ℕ) (l : List ℕ) (body : Bytes) → v < 255
+pub ahead-ends : (streams bytes v : ℕ) (l : List ℕ) (body : Bytes) → v < 255
     → ahead streams bytes (v ∷ l) body ≡ andLater (measureIn (take (bytes + v) body) streams) (ahead streams 0 l (drop (bytes + v) body))
 unfolding measured
 ahead-ends streams bytes v l body h = ap (measured streams) (whole-ends bytes v l body h)
 
-ahead-none : (streams bytes : ℕ) (body : Bytes) → ahead streams bytes [] body ≡ gives []
+pub ahead-none : (streams bytes : ℕ) (body : Bytes) → ahead streams bytes [] body ≡ gives []
 unfolding cutFrom measured
 ahead-none streams bytes body = refl
 
 -- ---- a packet's reading
 
-abbrev measureOf : Told Contents → Told Measure
+abbrev pub measureOf : Told Contents → Told Measure
 measureOf t = retold (λ (c : Contents). c .measure) t
 
 pub read-as : {r q : PacketRead} {t : Told Contents} → toldPacket r ≡ t → r ≡ q → t ≡ toldPacket q
@@ -175,7 +175,7 @@ all-measured {streams} {lacing} {body} {goal} {n} {m} {from} {packed} {count} {d
 
 -- ---- a page's packets, the held one first
 
-in-front-none : (t : Told (List Measure)) → inFront [] t ≡ t
+pub in-front-none : (t : Told (List Measure)) → inFront [] t ≡ t
 in-front-none (gives es) = refl
 in-front-none (refuses n) = refl
 

@@ -25,8 +25,9 @@ use Rattle.stream.specs.Packets.{Seen, join, seen, samplesOf}
 use Rattle.stream.specs.Feed.{carriedIn, view, entries, tallyAfter, firstPiece, appended, withRest, carryAfter, readerOf, noCounts, FedIs, Taken, toldPage}
 use Rattle.stream.specs.declared.PageFed.the-variants.{Accepted, Refused}
 use Rattle.feed_audio.specs.declared.packets.Piece.{Piece}
-use Rattle.feed_audio.specs.declared.times.Timed.the-variants.{Packets, Refused as Untimed}
-use Rattle.feed_audio.specs.Code.{firstFrom, countOf, measuresIn, measured, packetsBy, heldEnd, timedBy, Times, Lists, countsBy, restOf, begunBy, stillBy, freshBy, nextCore, onPast11, fedPast11, AnyCompletes, NoneCompletes}
+use Rattle.feed_audio.specs.declared.times.Timed.the-variants.{Packets}
+use Rattle.feed_audio.specs.Code.{firstFrom, countOf, measuresIn, measured, packetsBy, heldEnd, timedBy, Times, countsBy, restOf, begunBy, stillBy, freshBy, nextCore, onPast11, fedPast11, AnyCompletes, NoneCompletes}
+use Rattle.feed_audio.specs.Alike.{FilledAs, UnfilledAs}
 use Rattle.feed_audio.proofs.Splitting.{Ended, Open, ways}
 use Rattle.feed_audio.proofs.Seeing.{completing, going, ended, first-ended, rest-ended, begun-rest, first-open, rest-open, Carries, carries}
 use Rattle.feed_audio.proofs.Verdicts.{judges, measures-are}
@@ -88,32 +89,37 @@ module _ (crc : Bytes → ℕ) (k : Core) (t : Tally) (h : PageHeader) (l body :
     appends : now ≡ appended Audio carried (firstPiece (wholeFrom 0 l body) (restFrom 0 l body)) carry
     appends = now-joined ∙ ap (λ (b : Bytes). appended Audio carried b carry) (sym (first-ended l body carry (s .fitting .sums) splits))
 
-    pub completing-refused : {packed : List ℕ} {why : Refusal}
-        → Times (Untimed why) packed k h (measured (countOf (k .streams)) (packetsBy (k .pending) (first .values) (first .bytes) l body now))
-        → FedIs (fedPast11 (readings crc) (readerOf k t) lent (pageWith h l body)) (toldPage (Refused why)) (withCarry lent now)
-    unfolding whole rest
-    completing-refused {packed} {why} m =
-        let told = m .tells ∙ ap (λ (ps : List Bytes). timedBy (measured (countOf (k .streams)) ps) k h) packets-are ∙ judges crc k h few packets in
-        late-by (completing packets (restOf tail body)) (s .fitting .audio) sees
-        (refused (readings crc) k t h l body lent packets (restOf tail body) why told appends)
+    -- the packets that are listed, as the code has them
+    abbrev told : Told (List Measure)
+    told = measured (countOf (k .streams)) (packetsBy (k .pending) (first .values) (first .bytes) l body now)
 
-    pub completing-accepted : {packed : List ℕ} {i d skip : ℕ} {w : Placed} {es ss ks fs later : List ℕ} {after : Core} {tally : Tally} {counts : Counts}
-        → Times (Packets i d w) packed k h (measured (countOf (k .streams)) (packetsBy (k .pending) (first .values) (first .bytes) l body now))
-        → Lists skip (t .skip) (samplesOf (measuresIn (take i packed)))
-        (entries (t .skip) (isLastPage (h .flags)) (h .granule) (w .from) (measuresIn (take i packed))) (withCarry lent []) es ss ks fs
+    pub completing-refused : {why : Refusal} {es ss ks fs : List ℕ} → UnfilledAs why k h told (withCarry lent []) es ss ks fs
+        → FedIs (fedPast11 (readings crc) (readerOf k t) lent (pageWith h l body)) (toldPage (Refused why)) (lentOf now es ss ks fs)
+    unfolding whole rest
+    completing-refused {why} {es} {ss} {ks} {fs} u =
+        let tells = u .times .tells ∙ ap (λ (ps : List Bytes). timedBy (measured (countOf (k .streams)) ps) k h) packets-are ∙ judges crc k h few packets in
+        subst (λ (m : Lent). FedIs (fedPast11 (readings crc) (readerOf k t) lent (pageWith h l body)) (toldPage (Refused why)) (withCarry m now))
+        (sym (u .stays))
+        (late-by (completing packets (restOf tail body)) (s .fitting .audio) sees
+        (refused (readings crc) k t h l body lent packets (restOf tail body) why tells appends))
+
+    pub completing-accepted : {i d skip : ℕ} {w : Placed} {es ss ks fs later : List ℕ} {after : Core} {tally : Tally} {counts : Counts}
+        → FilledAs i d w skip k h (t .skip) told (withCarry lent []) es ss ks fs
         → later ≡ withRest (restOf left body) now → counts ≡ countsBy i d w (t .skip) (isLastPage (h .flags)) (h .granule)
         → after ≡ nextCore k h (begunBy left) (At (h .granule)) → tally ≡ tallyAfter t skip counts
         → FedIs (fedPast11 (readings crc) (readerOf k t) lent (pageWith h l body)) (toldPage (Accepted after tally counts)) (lentOf later es ss ks fs)
     unfolding whole rest carryAfter
-    completing-accepted {packed} {i} {d} {skip} {w} {es} {ss} {ks} {fs} {later} {after} {tally} {counts} m x c z a y =
-        let told = m .tells ∙ ap (λ (ps : List Bytes). timedBy (measured (countOf (k .streams)) ps) k h) packets-are ∙ judges crc k h few packets in
+    completing-accepted {i} {d} {skip} {w} {es} {ss} {ks} {fs} {later} {after} {tally} {counts} f c z a y =
+        let m = f .times in
+        let packed = f .packed in
+        let tells = m .tells ∙ ap (λ (ps : List Bytes). timedBy (measured (countOf (k .streams)) ps) k h) packets-are ∙ judges crc k h few packets in
         let ds = measures-are crc (k .streams) few packets (measuresIn (take i packed)) (m .runs .measures ∙ ap (measured (countOf (k .streams))) packets-are) in
         let left-is : left ≡ tail = s .scanned .tail in
         let within : tail ≤ length body = subst (λ (n : ℕ). n ≤ length body) left-is (s .left) in
         let later-is =
         c ∙ ap₂ withRest (ap (λ (n : ℕ). restOf n body) left-is ∙ sym (rest-ended l body carry (s .fitting .sums) splits (k .pending))) appends in
         late-by (completing packets (restOf tail body)) (s .fitting .audio) sees
-        (accepted (readings crc) k t h l body lent packets (restOf tail body) i d w packed (begunBy left) told ds (m .runs .few) (m .runs .adds) x later-is a
+        (accepted (readings crc) k t h l body lent packets (restOf tail body) i d w packed (begunBy left) tells ds (m .runs .few) (m .runs .adds) (f .lists) later-is a
         (begun-rest tail body within ∙ ap begunBy (sym left-is)) z y)
 
   -- ---- where none does

@@ -183,6 +183,14 @@ pub record Room (n from : ℕ) (packed es ss ks fs : List ℕ) : Type 0 where
   pub frames : n ≤ length fs
   pub fits : from + samplesOf (measuresIn (take n packed)) < 2 ^ 64
 
+-- room for one packet at place i, its last sample being at a position that fits
+pub record Placeable (i m at : ℕ) (es ss ks fs : List ℕ) : Type 0 where
+  pub ends : i < length es
+  pub lengths : i < length ss
+  pub kept : i < length ks
+  pub frames : i < length fs
+  pub fits : at + m / 64 < 2 ^ 64
+
 -- the four lists, from `old`, with these entries, and the samples that are then still to skip, d of them being listed
 pub record Lists (left skip d : ℕ) (es : List Entry) (old : Lent) (ends lengths kept frames : List ℕ) : Type 0 where
   pub lists : lentOf (old .carry) ends lengths kept frames ≡ withEntries es old

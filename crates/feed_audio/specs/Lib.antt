@@ -1,2 +1,3 @@
 pub mod Audio
 pub mod Code
+pub mod Alike

@@ -16,6 +16,7 @@ ghost use Rattle.feed_audio.specs.Code.{freshBy, fedPast11, Fitting, Any
 ghost use Rattle.page_lacing.specs.Lacing.{isBody};
 use feed_lacing::Scan;
 use granule::Position;
+use lists::Listed;
 use packets::Piece;
 use page_layout::PageHeader;
 use refusal::Refusal;
@@ -23,9 +24,9 @@ use stream::Core;
 use stream::PageFed;
 use stream::Phase;
 use stream::Tally;
-use times::Timed;
 
 mod carried;
+mod lists;
 mod packets;
 mod times;
 
@@ -60,23 +61,22 @@ fn feed_completing(
     let pending = core.pending;
     let skip = tally.skip;
     carried::append(pending, first.bytes, body, carry);
-    let mut measures = [0u32; 255];
-    match times::time_page(core, h, first, lacing, body, carry, &mut measures) {
-        Timed::Refused(why) => PageFed::Refused(why),
-        Timed::Packets(count, d, place) => {
+    match lists::list_page(
+        core,
+        h,
+        first,
+        skip,
+        lacing,
+        body,
+        carry,
+        ends,
+        lengths,
+        kept,
+        frames,
+    ) {
+        Listed::Refused(why) => PageFed::Refused(why),
+        Listed::Filled(count, d, place, left) => {
             let last = page_flags::is_last_page(h.flags);
-            let left = times::list_packets(
-                &measures,
-                count,
-                place.from,
-                skip,
-                last,
-                h.granule,
-                ends,
-                lengths,
-                kept,
-                frames,
-            );
             carried::keep_rest(rest, body, carry);
             let counts = times::counts_of(count, d, place, skip, last, h.granule);
             let next = carried::next_core(core, h, carried::begun(rest), Position::At(h.granule));

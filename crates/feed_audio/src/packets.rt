@@ -5,6 +5,7 @@ ghost use lib.ListN.{length, take, drop};
 ghost use Rattle.stream.specs.Page.{wholeFrom};
 ghost use Rattle.feed_audio.specs.Code.{firstFrom, countOf, Packable, packedOf, measuresIn, inFront, measured};
 ghost use Rattle.feed_audio.specs.Code.{Measures, Ready, packetsBy, Measurable};
+ghost use Rattle.feed_audio.specs.Alike.{isSingleOf, Cut, Alike, AlikeOn};
 use packet_reader::Measure;
 use packet_reader::PacketRead;
 use refusal::Refusal;
@@ -49,8 +50,15 @@ pub(crate) enum Measured {
     Refused(Refusal),
 }
 
+pub(crate) enum Same {
+    // how many packets complete: each has one frame, no length coded, and this first byte
+    Each(usize, u8),
+    // they may differ
+    Differ,
+}
+
 // A measure in one number, so that those of a page are one array: no packet has 64 frames.
-fn packed(m: Measure) -> u32
+pub(crate) fn packed(m: Measure) -> u32
     requires { ⌜ Packable m ⌝ }
     ensures { λ r. ⌜ r ≡ packedOf m ⌝ }
 {
@@ -139,5 +147,54 @@ pub(crate) fn measure_page(
                 }
             }
         }
+    }
+}
+
+fn is_single_of(bytes: &[u8], toc: u8) -> bool
+    ensures { λ r. ⌜ r ≡ isSingleOf toc (now (bytes .entry)) ⌝ }
+{
+    let first = octets::byte_at(bytes, 0);
+    packet_reader::is_single(bytes) & (first == toc)
+}
+
+// Whether the packets that complete in `body`, from its start on, all have one frame, no length coded, and one first byte.
+fn same_packets(lacing: &[u8], body: &[u8]) -> Same
+    requires { ⌜ Cut (now lacing) (now body) ⌝ }
+    ensures { λ r. ⌜ Alike r (now (lacing .entry)) (now (body .entry)) ⌝ }
+{
+    let toc = octets::byte_at(body, 0);
+    let mut count: usize = 0;
+    let mut start: usize = 0;
+    let mut bytes: usize = 0;
+    let mut i: usize = 0;
+    while i < lacing.len() {
+        let v = octets::wide(lacing[i]);
+        bytes += v;
+        i += 1;
+        if v < 255 {
+            let end = start + bytes;
+            if !is_single_of(&body[start..end], toc) {
+                return Same::Differ;
+            }
+            start = end;
+            count += 1;
+            bytes = 0;
+        }
+    }
+    Same::Each(count, toc)
+}
+
+// The same of a page's packets, by what is pending. A reader of several streams is told that they differ.
+pub(crate) fn same_on(pending: Pending, streams: u64, lacing: &[u8], body: &[u8]) -> Same
+    requires { ⌜ Cut (now lacing) (now body) ⌝ }
+    ensures { λ r. ⌜ AlikeOn r pending streams (now (lacing .entry)) (now (body .entry)) ⌝ }
+{
+    if streams != 1 {
+        return Same::Differ;
+    }
+    match pending {
+        Pending::Nothing => same_packets(lacing, body),
+        Pending::Dropped => Same::Differ,
+        Pending::Held(n) => Same::Differ,
     }
 }

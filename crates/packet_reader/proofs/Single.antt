@@ -13,8 +13,8 @@ use Rattle.refusal.specs.Told.{gives}
 use Rattle.packet_toc.specs.Toc.{codeOf}
 use Rattle.packet_frames.specs.Frames.{frameMax, codedTimes, isSilent}
 use Rattle.packet_frames.specs.Packet.{shapeOf, parse}
-use Rattle.packet_reader.specs.Streams.{contentsOf, measured, measuredOf, allAre, readPacket}
-use Rattle.packet_reader.specs.Code.{madeOf, isSingle}
+use Rattle.packet_reader.specs.Streams.{contentsOf, measured, measuredOf, allAre, readPacket, isSingle}
+use Rattle.packet_reader.specs.Code.{madeOf}
 use Rattle.packet_reader.proofs.Verdict.{by-streams}
 
 and-true : (t : Bool) → t && true ≡ t

@@ -1,14 +1,14 @@
 -- What the private functions answer, in the code's words: a packet with the place that follows it, and whether the lengths
 -- agree. Assumes nothing.
-use Prim.Native.Nat.{ℕ, _+_, _*_, _≤_}
+use Prim.Native.Nat.{ℕ, _*_, _≤_}
 use mathlib.Core.Path.{_≡_}
-use mathlib.Core.Bool.{Bool, _&&_}
-use lib.Dec.{ltb, eqb}
+use mathlib.Core.Bool.{Bool}
+use lib.Dec.{eqb}
 use lib.ListN.{length, getD, drop}
 use Rattle.octets.specs.Pick.{pick}
 use Rattle.octets.specs.Octets.{Bytes}
-use Rattle.packet_toc.specs.Toc.{codeOf, frameSamples, isStereo}
-use Rattle.packet_frames.specs.Frames.{frameMax, Read, short, value}
+use Rattle.packet_toc.specs.Toc.{frameSamples, isStereo}
+use Rattle.packet_frames.specs.Frames.{Read, short, value}
 use Rattle.packet_frames.specs.Packet.{Parsed, breaks, frames}
 use Rattle.packet_reader.specs.declared.Contents.{Contents}
 use Rattle.packet_reader.specs.declared.OpusRead.{OpusRead}
@@ -63,7 +63,3 @@ abbrev pub joined : Contents → Agreed → Agreed
 joined c notLegal = notLegal
 joined c notSame = notSame
 joined c (same e) = pick (eqb (e .measure .samples) (c .measure .samples)) (same c) notSame
-
--- a plain packet of code 0: a first byte, and one frame of at most `frameMax` bytes
-unfoldable pub isSingle : Bytes → Bool
-isSingle b = ltb 0 (length b) && (ltb (length b) (frameMax + 2) && eqb (codeOf (getD b 0 0)) 0)

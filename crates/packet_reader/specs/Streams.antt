@@ -1,6 +1,6 @@
 -- An audio packet of N streams (RFC 7845, 3 and 5.1.1; RULES.md, 6, refusals 13, 15 and 16). The first N - 1 Opus packets
 -- are self-delimited, each read from what the one before left, and the last one is not. Assumes nothing.
-use Prim.Native.Nat.{ℕ, zero, suc, _*_, _-_}
+use Prim.Native.Nat.{ℕ, zero, suc, _+_, _*_, _-_}
 use mathlib.Core.Bool.{Bool, true, false, not, _&&_, _||_}
 use mathlib.Core.List.{List, [], _∷_}
 use lib.Dec.{ltb, eqb}
@@ -10,8 +10,8 @@ use Rattle.refusal.specs.declared.Refusal.the-variants.{BadMapping, IllegalPack
 use Rattle.refusal.specs.Checks.{Check, _when_, firstOf}
 use Rattle.refusal.specs.Told.{Told, gives, refuses, decided}
 use Rattle.refusal.specs.Numbers.{numberOf}
-use Rattle.packet_toc.specs.Toc.{frameSamples, isStereo}
-use Rattle.packet_frames.specs.Frames.{isSilent}
+use Rattle.packet_toc.specs.Toc.{codeOf, frameSamples, isStereo}
+use Rattle.packet_frames.specs.Frames.{frameMax, isSilent}
 use Rattle.packet_frames.specs.Packet.{Parsed, breaks, frames, parse}
 use Rattle.packet_reader.specs.declared.Contents.{Contents}
 use Rattle.packet_reader.specs.declared.PacketRead.{PacketRead}
@@ -90,3 +90,7 @@ readPacket b streams = decided (firstOf (packetChecks b streams)) (firstContents
 abbrev pub toldPacket : PacketRead → Told Contents
 toldPacket (Legal c) = gives c
 toldPacket (Refused r) = refuses (numberOf r)
+
+-- a plain packet of code 0: a first byte, and one frame of at most `frameMax` bytes
+unfoldable pub isSingle : Bytes → Bool
+isSingle b = ltb 0 (length b) && (ltb (length b) (frameMax + 2) && eqb (codeOf (getD b 0 0)) 0)

@@ -2,8 +2,8 @@
 ghost use mathlib.Core.Path.{_≡_};
 ghost use Prim.Native.Nat.{_-_, _≤_};
 ghost use Rattle.packet_frames.specs.Packet.{parse};
-ghost use Rattle.packet_reader.specs.Streams.{measuredOf, readPacket, toldPacket};
-ghost use Rattle.packet_reader.specs.Code.{madeOf, OpusIs, contentsIn, agreed, toldLengths, joined, isSingle};
+ghost use Rattle.packet_reader.specs.Streams.{measuredOf, readPacket, toldPacket, isSingle};
+ghost use Rattle.packet_reader.specs.Code.{madeOf, OpusIs, contentsIn, agreed, toldLengths, joined};
 use packet_frames::FRAME_MAX;
 use packet_frames::Framed;
 use refusal::Refusal;
@@ -123,9 +123,10 @@ pub fn read_packet(bytes: &[u8], streams: u64) -> PacketRead
     }
 }
 
-// Whether the bytes are a packet of one frame that has no length coded, by its first byte and its length: nearly all packets
-// of one stream are.
-fn is_single(bytes: &[u8]) -> bool
+// Whether the bytes are a packet of one frame that has no length coded, by its first byte and its length (RULES.md, 6): nearly
+// all packets of one stream are. As a packet of one stream it is then legal. It refuses nothing.
+// Example: `is_single(&[0xf8, 0xaa])` is true, and `is_single(&[0xf9, 0xaa])` is false.
+pub fn is_single(bytes: &[u8]) -> bool
     ensures { λ r. ⌜ r ≡ isSingle (now (bytes .entry)) ⌝ }
 {
     let toc = octets::byte_at(bytes, 0);

@@ -1,6 +1,6 @@
 -- `packet_reader::is_single` meets its contract. Assumes nothing.
 use borrow.Author.Needs.{needs}
-use Rattle.packet_reader.specs.Code.{isSingle}
+use Rattle.packet_reader.specs.Streams.{isSingle}
 use Rattle.packet_reader.proofs.is_single.Statement.{statement}
 use Rattle.packet_reader.proofs.is_single.Tie as tie
 

@@ -1,14 +1,15 @@
 -- `feed_audio::times::list_packets` meets its contract: `Listing.antt` has a turn. Assumes nothing.
-use Prim.Native.Nat.{_-_}
-use mathlib.Core.Path.{sym}
+use Prim.Native.Nat.{ℕ, _-_}
+use mathlib.Core.Path.{_≡_, sym}
+use mathlib.Core.List.{List}
 use native.Mathlib.Omega.{arith}
 use borrow.Author.Needs.{needs}
 use denote.Ref.{now}
-use lib.ListN.{take}
-use lib.Seq.{getD-take}
+use lib.ListN.{getD, take}
+use lib.Seq.{getD-take, length-take-le}
 use Rattle.stream.specs.Feed.{entries}
 use Rattle.feed_audio.specs.Code.{measuresIn}
-use Rattle.feed_audio.proofs.Listing.{Listing, begins, fits-next, lists, all-listed}
+use Rattle.feed_audio.proofs.Listing.{Listing, begins, fits-next, placeable, lists, all-listed}
 use Rattle.feed_audio.proofs.times.list_packets.Statement.{statement}
 use Rattle.feed_audio.proofs.times.list_packets.Tie as tie
 
@@ -23,31 +24,44 @@ abbrev μ-loop : tie.MeasureT-loop
 loop-holds : tie.Need-loop-holds Inv-loop μ-loop
 loop-holds c =
     let st = c .before .before .before .before .before in
-    begins _ _ _ _ _ _ _ _ _ _ (st .pre .measures) (st .pre .fits)
+    let packed = now (st .args .measures) in
+    begins _ _ _ _ (st .args .n) (take (st .args .n) packed) _ _ _ _ (length-take-le (st .args .n) packed (st .pre .measures)) (st .pre .fits)
+
+-- a turn
+module _ (c : tie.In-loop Inv-loop μ-loop) where
+  abbrev entry : tie.Start Inv-loop μ-loop
+  entry = c .before .before .before .before .before .before .before
+
+  abbrev packed : List ℕ
+  packed = now (entry .args .measures)
+
+  measure : getD packed (c .before .loop .i) 0 ≡ getD (take (entry .args .n) packed) (c .before .loop .i) 0
+  measure = sym (getD-take (entry .args .n) packed (c .before .loop .i) 0 (c .loop-test .taken))
+
+list-one-requires : tie.Need-list-one-requires Inv-loop μ-loop
+list-one-requires c κs =
+    let on = c .before .before .before .before .before in
+    let room = entry on .pre in
+    placeable (on .before .loop .inv) (on .loop-test .taken) (measure on) (room .ends) (room .lengths) (room .kept) (room .frames)
 
 add-at : tie.Need-add-at Inv-loop μ-loop
 add-at c =
-    let in-n = c .before .before .before in
-    let at = in-n .before .loop in
-    let st = in-n .before .before .before .before .before .before .before in
-    let e = sym (getD-take (st .args .n) (now (st .args .measures)) (at .i) 0 (in-n .loop-test .taken)) in
-    omega (arith, fits-next (at .inv) (in-n .loop-test .taken) e, c .before .wide .ensures)
+    let on = c .before .before .before .before .before .before .before .before .before .before .before .before .before .before .before in
+    omega (arith, fits-next (on .before .loop .inv) (on .loop-test .taken) (measure on), c .wide .ensures)
 
 loop-again : tie.Need-loop-again Inv-loop μ-loop
 loop-again c =
-    let in-n = c .before .before .before .before .before in
-    let at = in-n .before .loop in
-    let st = in-n .before .before .before .before .before .before .before in
-    let e = sym (getD-take (st .args .n) (now (st .args .measures)) (at .i) 0 (in-n .loop-test .taken)) in
-    rw (c .skip-after .ensures, c .before .wide2 .ensures, c .before .before .kept .ensures, c .before .before .before .wide .ensures)
-    (lists (at .inv) (in-n .loop-test .taken) e (st .pre .ends) (st .pre .lengths) (st .pre .kept) (st .pre .frames))
+    let listed = c .before .before .before .before .before .before .before .before .before .before in
+    let on = listed .before .before .before .before .before .before in
+    let room = entry on .pre in
+    let put = listed .list-one .ensures in
+    rw (c .skip-after .ensures, c .before .wide .ensures, put .0, put .1 .0, put .1 .1 .0, put .1 .1 .1)
+    (lists (on .before .loop .inv) (on .loop-test .taken) (measure on) (room .ends) (room .lengths) (room .kept) (room .frames))
 
 pub list-packets-spec : {M : Type 1} → statement M
 list-packets-spec =
     tie.close
     (tie.spec Inv-loop μ-loop
-    loop-holds (λ c. search needs) (λ c. search needs) (λ c κs. tt) (λ c κs. tt) (λ c. search needs) (λ c. search needs)
-    add-at (λ c. search needs) (λ c. search needs) (λ c. search needs) (λ c. search needs) (λ c κs. tt) (λ c. search needs)
-    (λ c. search needs) (λ c κs. tt) (λ c. omega arith) (λ c. omega arith) loop-again
+    loop-holds (λ c. search needs) (λ c. search needs) list-one-requires (λ c κs. tt) add-at (λ c κs. tt) (λ c. omega arith) (λ c. omega arith) loop-again
     (λ c. search needs) (λ c. search needs) (λ c. search needs) (λ c. search needs)
     (λ c. all-listed (c .before .loop .inv) (c .loop-test .left)))
