@@ -14,7 +14,6 @@ use Rattle.octets.proofs.Tests.{both}
 use Rattle.refusal.specs.Told.{Told, gives}
 use Rattle.packet_toc.specs.Toc.{frameSamples}
 use Rattle.packet_reader.specs.declared.Measure.{Measure}
-use Rattle.packet_reader.specs.declared.Contents.{Contents}
 use Rattle.packet_reader.specs.Streams.{isSingle}
 use Rattle.packet_reader.proofs.Single.{reads-single}
 use Rattle.stream.specs.declared.Pending.{Pending}

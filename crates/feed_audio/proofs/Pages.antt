@@ -21,8 +21,8 @@ use Rattle.stream.specs.Lent.{Lent, lentOf, withCarry}
 use Rattle.packet_reader.specs.declared.Measure.{Measure}
 use Rattle.stream.specs.Readings.{readings}
 use Rattle.stream.specs.State.{Carried}
-use Rattle.stream.specs.Packets.{Seen, join, seen, samplesOf}
-use Rattle.stream.specs.Feed.{carriedIn, view, entries, tallyAfter, firstPiece, appended, withRest, carryAfter, readerOf, noCounts, FedIs, Taken, toldPage}
+use Rattle.stream.specs.Packets.{Seen, join, seen}
+use Rattle.stream.specs.Feed.{carriedIn, view, tallyAfter, firstPiece, appended, withRest, carryAfter, readerOf, noCounts, FedIs, Taken, toldPage}
 use Rattle.stream.specs.declared.PageFed.the-variants.{Accepted, Refused}
 use Rattle.feed_audio.specs.declared.packets.Piece.{Piece}
 use Rattle.feed_audio.specs.declared.times.Timed.the-variants.{Packets}

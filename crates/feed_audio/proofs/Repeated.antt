@@ -1,11 +1,11 @@
 -- Packets with one measure: its list, their samples, and what listing them answers. Assumes nothing.
-use Prim.Native.Nat.{ℕ, zero, suc, _+_, _*_, _≤_}
+use Prim.Native.Nat.{ℕ, zero, suc, _*_, _≤_}
 use mathlib.Core.Path.{_≡_, refl, sym, ap, subst, _∙_}
 use mathlib.Core.List.{List, _∷_}
 use native.Mathlib.Nat.{le-of-suc-le-suc, le-trans, mul-le-mul-left, mul-le-mul-right}
 use native.Mathlib.Omega.{arith}
 use lib.Dec.{lit≤}
-use lib.ListN.{length, take, replicate, length-replicate}
+use lib.ListN.{take, replicate, length-replicate}
 use Rattle.refusal.specs.Told.{Told, gives}
 use Rattle.page_layout.specs.declared.PageHeader.{PageHeader}
 use Rattle.page_flags.specs.Flags.{isLastPage}

@@ -2,7 +2,7 @@
 // first byte, and these need no array of measures.
 ghost use Prim.Native.Nat.{_<_, _≤_, _^_};
 ghost use mathlib.Core.List.{[]};
-ghost use lib.ListN.{length, replicate};
+ghost use lib.ListN.{replicate};
 ghost use Rattle.refusal.specs.Told.{gives};
 ghost use Rattle.stream.specs.Lent.{lentOf};
 ghost use Rattle.feed_audio.specs.Code.{countOf, measured, packetsBy, Measurable};
