@@ -74,15 +74,15 @@ static void feed_headers(void)
 {
     static const uint64_t fields[8] = { 1, 2, 312, 48000, 0, 0, 1, 1 };
     static const uint8_t mapping[255] = { 0, 1 };
-    static const uint8_t no_text[1];
+    static const uint8_t no_bytes[1];
     static const uint64_t no_lengths[1];
     uint8_t packet[64];
     uint64_t n;
 
     embulgri_start(after_headers);
-    must(embulgri_head_write(fields, mapping, packet, sizeof packet, &n), "writing");
+    must(embulgri_head_write(fields, mapping, no_bytes, 0, packet, sizeof packet, &n), "writing");
     feed_header(2, 0, packet, n);
-    must(embulgri_tags_write(no_text, 0, no_text, 0, no_lengths, 0, packet, sizeof packet, &n), "writing");
+    must(embulgri_tags_write(no_bytes, 0, no_bytes, 0, no_lengths, 0, packet, sizeof packet, &n), "writing");
     feed_header(0, 1, packet, n);
 }
 

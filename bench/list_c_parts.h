@@ -176,29 +176,48 @@ static int audio_packet(const uint8_t *p, size_t n, int streams)
     return differ ? -1 : (int)first;
 }
 
-/* ---- headers (RFC 7845, 5) */
+/* ---- headers (RFC 7845, 5; RFC 8486, 3) */
 
 static int streams;
 static uint32_t pre_skip;
+
+/* The bytes that the fields of a header take. */
+static size_t head_size(const uint8_t *p, size_t n)
+{
+    size_t channels = p[9], family = p[18];
+    if (family != 3)
+        return family == 0 ? 19 : 21 + channels;
+    return n < 21 ? 21 : 21 + 2 * ((size_t)p[19] + p[20]) * channels;
+}
+
+static int is_ambisonic(uint32_t channels)
+{
+    uint32_t side = 15;
+    while (side * side > channels)
+        side--;
+    return channels == side * side || channels == side * side + 2;
+}
 
 static int read_head(const uint8_t *p, size_t n)
 {
     if (n < 19 || memcmp(p, "OpusHead", 8))
         return 12;
-    uint32_t version = p[8], channels = p[9], family = p[18], size = family == 0 ? 19 : 21 + channels;
+    uint32_t version = p[8], channels = p[9], family = p[18];
+    size_t size = head_size(p, n);
     if (version > 15 || n < size || (version < 2 && n > size))
         return 12;
     pre_skip = p[10] | p[11] << 8;
     streams = 1;
     if (family == 0)
         return channels == 1 || channels == 2 ? 0 : 13;
-    if (channels == 0 || (family == 1 ? channels > 8 : family != 255))
+    if (channels == 0 || (family == 1 && channels > 8) || ((family == 2 || family == 3) && !is_ambisonic(channels))
+        || (family > 3 && family != 255))
         return 13;
     uint32_t coupled = p[20];
     streams = p[19];
     if (streams < 1 || coupled > (uint32_t)streams || coupled + streams > 255)
         return 13;
-    for (uint32_t i = 0; i < channels; i++)
+    for (uint32_t i = 0; family != 3 && i < channels; i++)
         if (p[21 + i] >= coupled + streams && p[21 + i] != 255)
             return 13;
     return 0;

@@ -1,4 +1,4 @@
-/* Embulgri: a verified library for Ogg Opus streams (RFC 3533, RFC 6716, RFC 7845).
+/* Embulgri: a verified library for Ogg Opus streams (RFC 3533, RFC 6716, RFC 7845, RFC 8486).
  *
  * The static library target/staticlib/libembulgri.a, built by `rt staticlib embulgri`, is for x86-64 Linux.
  *
@@ -51,32 +51,54 @@ uint32_t embulgri_page_write(uint64_t flags, uint64_t granule, uint32_t serial, 
  * Example: the byte 0xfc with streams 1 stores 960, 1, 1, 1, and the bytes 0x01, 0xaa, 0xbb store 960, 2, 0, 0. */
 uint32_t embulgri_packet_read(const uint8_t *packet, size_t n, uint64_t streams, uint64_t out[4]);
 
-/* Reads one identification header (RFC 7845, section 5.1). fields: version, channels, pre-skip, input rate, output
- * gain (its 16 bits, two's complement, as a number from 0 to 65535), mapping family, stream count, coupled count.
- * mapping: the index of each channel, then zeros. Family 0 has no table: its stream count is 1, its coupled count is
- * channels - 1, and its indices are 0 and 1.
- *   12  the signature is wrong, the version is above 15, n is below 19 for family 0, 21 + channels for any other family,
- *       or n is above that in version 0 or 1
+/* Reads one identification header (RFC 7845, section 5.1; RFC 8486, section 3). fields: version, channels, pre-skip,
+ * input rate, output gain (its 16 bits, two's complement, as a number from 0 to 65535), mapping family, stream count,
+ * coupled count. mapping: the index of each channel, then zeros. Family 0 has no table: its stream count is 1, its
+ * coupled count is channels - 1, and its indices are 0 and 1. Family 3 has a matrix and no indices: its mapping is zeros.
+ * The fields take 19 bytes in family 0, 21 + 2 * (stream count + coupled count) * channels in family 3, with the counts
+ * as they stand in the packet, and 21 + channels in any other family.
+ *   12  the signature is wrong, the version is above 15, the fields take more than 61440 bytes, n is below what they
+ *       take, or n is above that in version 0 or 1
  *   13  not 12, and the channel mapping is wrong: channels is not 1 or 2 for family 0, 1 to 8 for family 1, 1 to 255
- *       for family 255, or the family is another; the stream count is 0, the coupled count is above it, or their sum is
- *       above 255; or an index is neither below their sum nor 255
+ *       for family 255, (k + 1)^2 or (k + 1)^2 + 2 with k from 0 to 14 for families 2 and 3, or the family is another;
+ *       the stream count is 0, the coupled count is above it, or their sum is above 255; or an index is neither below
+ *       their sum nor 255
  *   0   neither; the eight numbers and all 255 places of the mapping are stored
  * Example: a right header with 2 channels, pre-skip 312, input rate 48000, output gain 0 and family 0 stores the numbers
  * 1, 2, 312, 48000, 0, 0, 1, 1 and the mapping 0, 1 and zeros. */
 uint32_t embulgri_head_read(const uint8_t *packet, size_t n, uint64_t fields[8], uint8_t mapping[255]);
 
-/* Writes one identification header, 19 bytes for family 0 and 21 + channels for any other family, at the start of out,
- * and its length to *written. What lies past the header stays as it was. fields and mapping are as embulgri_head_read
- * stores them.
+/* Writes one identification header, as long as its fields, at the start of out, and its length to *written. What lies
+ * past the header stays as it was. fields and mapping are as embulgri_head_read stores them. matrix: the bytes of the
+ * matrix of family 3, and none in any other family.
  *   23  a field is too wide for the header (pre-skip and output gain: 16 bits, input rate: 32, each other: 8), the
  *       version is not 1, embulgri_head_read would refuse the channel mapping by 13, family 0 has other counts or
- *       indices than its own, or a place of the mapping past those of the channels is not zero
+ *       indices than its own, a place of the mapping past the indices is not zero, the header would take more than 61440
+ *       bytes, or matrix_n is not 2 * (stream count + coupled count) * channels in family 3, or not 0 in another
  *   22  not 23, and out is shorter than the header
  *   0   neither; the header and its length are stored
- * Example: the numbers 1, 2, 312, 48000, 0, 0, 1, 1 with the mapping 0, 1 and zeros and an out of 40 bytes store 19 to
- * *written. */
+ * Example: the numbers 1, 2, 312, 48000, 0, 0, 1, 1 with the mapping 0, 1 and zeros, no matrix and an out of 40 bytes
+ * store 19 to *written. */
 uint32_t embulgri_head_write(const uint64_t fields[8], const uint8_t mapping[255],
+                             const uint8_t *matrix, size_t matrix_n,
                              uint8_t *out, size_t out_n, uint64_t *written);
+
+/* Finds the matrix of an identification header of family 3. part: where it starts in the packet, and its length in
+ * bytes; two zeros in any other family, which has no matrix.
+ *   12  embulgri_head_read would refuse the packet by 12
+ *   13  embulgri_head_read would refuse the packet by 13
+ *   0   neither; the two numbers are stored
+ * Example: a right header of family 3 with 4 channels, 2 streams and 2 coupled ones stores 21 and 32. */
+uint32_t embulgri_head_matrix(const uint8_t *packet, size_t n, uint64_t part[2]);
+
+/* Reads entry i of the matrix of an identification header of family 3, the first being 0, in the order in which they
+ * are stored. *value: its 16 bits, two's complement, as a number from 0 to 65535. Each call checks the whole packet.
+ *   12  embulgri_head_read would refuse the packet by 12
+ *   13  embulgri_head_read would refuse the packet by 13
+ *   20  neither, and the matrix has no entry i; in a family without a matrix there is none
+ *   0   none of these; the entry is stored
+ * Example: where the matrix begins with the bytes 0xff and 0xff, i 0 stores 65535. */
+uint32_t embulgri_head_matrix_entry(const uint8_t *packet, size_t n, uint64_t i, uint64_t *value);
 
 /* Reads one comment header (RFC 7845, section 5.2). *count: the number of its comments. Bytes after the last comment
  * are not looked at.
@@ -152,7 +174,8 @@ void embulgri_start(uint64_t state[16]);
 
 /* A reader that waits for any audio page of a stream with this identification header. fields and mapping are as
  * embulgri_head_read stores them. A packet that began before that page is not listed, and the pre-skip is not skipped.
- *   23  the version is above 15, or embulgri_head_write would refuse the fields with version 1 by 23
+ *   23  the version is above 15, or embulgri_head_write would refuse the fields with version 1 by 23, whatever the
+ *       matrix
  *   0   neither; the 16 numbers are stored
  * Example: the numbers 1, 2, 312, 48000, 0, 0, 1, 1 with the mapping 0, 1 and zeros store 3, 0, 0, 1, 0, 0, 0, 1, 312
  * and seven zeros. */

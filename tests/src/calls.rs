@@ -3,6 +3,7 @@
 
 use crate::ffi;
 use crate::head::{self, Head, PLACES};
+use crate::head_matrix::{found_matrix, Matrix};
 use crate::ogg::{self, Page, HEAD};
 use crate::opus::{self, Contents};
 use crate::reading::Reading;
@@ -45,7 +46,8 @@ fn read_head(packet: &[u8]) -> (Reading, Vec<u8>) {
     (reading, buffer)
 }
 
-/// Reads an identification header by the library, holds it to the rules and gives what they tell.
+/// Reads an identification header and its matrix by the library, holds them to the rules and gives
+/// what they tell.
 pub fn check_head(packet: &[u8], case: impl Display) -> Result<Head, u32> {
     let told = head::read(packet);
     let (reading, buffer) = read_head(packet);
@@ -60,7 +62,8 @@ pub fn check_head(packet: &[u8], case: impl Display) -> Result<Head, u32> {
         Reading::by_rules(fields),
         "{length} bytes from {start:02x?}, {case}"
     );
-    assert_same_bytes(&buffer, &expected, case);
+    assert_same_bytes(&buffer, &expected, &case);
+    Matrix::checked(packet, &told, case);
     told
 }
 
@@ -81,10 +84,10 @@ pub fn found(bytes: &[u8]) -> Page {
     }
 }
 
-/// The identification header that the library finds in bytes.
+/// The identification header, with its matrix, that the library finds in bytes.
 pub fn found_head(packet: &[u8]) -> Head {
     let (reading, buffer) = read_head(packet);
     assert_eq!(reading.answer, 0);
     let mapping = buffer[BEFORE..].first_chunk().expect("255 places");
-    Head::new(reading.numbers(), *mapping)
+    Head::new(reading.numbers(), *mapping, found_matrix(packet))
 }

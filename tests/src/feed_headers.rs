@@ -5,10 +5,11 @@ use crate::feeding::{HEADER_SHAPE, LAST, NO_GRANULE, WRONG_FLAGS, WRONG_GRANULE}
 use crate::head::{BAD_HEAD, BAD_MAPPING};
 use crate::head_damages;
 use crate::head_inputs::{head, head_to_read, packet, version};
+use crate::head_mappings;
 use crate::inputs::{change, Change};
 use crate::random::Random;
 use crate::reader::Unfinished;
-use crate::tags::{self, BAD_TAGS};
+use crate::tags::{self, BAD_TAGS, LONGEST};
 use crate::tags_damages;
 use crate::tags_inputs::tags;
 
@@ -52,6 +53,7 @@ pub const FIRST_PAGE: &[Change<Case>] = &[
         let mut packet = packet(random, &head);
         let damage = random.pick(head_damages::DAMAGES);
         (damage.apply)(random, &mut packet);
+        packet.truncate(LONGEST);
         case.put(&[(packet, true)])
     }),
     change("an empty header", &[BAD_HEAD], |_, case| {
@@ -62,7 +64,7 @@ pub const FIRST_PAGE: &[Change<Case>] = &[
     }),
     change("a wrong mapping", &[BAD_MAPPING], |random, case| {
         let mut head = head(random);
-        let damage = random.pick(head_damages::WRONG_MAPPINGS);
+        let damage = random.pick(head_mappings::WRONG_MAPPINGS);
         (damage.apply)(random, &mut head);
         head.version = version(random);
         case.put(&[(packet(random, &head), true)])

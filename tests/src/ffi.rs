@@ -28,10 +28,14 @@ extern "C" {
     fn embulgri_head_write(
         fields: *const u64,
         mapping: *const u8,
+        matrix: *const u8,
+        matrix_n: usize,
         out: *mut u8,
         out_n: usize,
         written: *mut u64,
     ) -> u32;
+    fn embulgri_head_matrix(packet: *const u8, n: usize, part: *mut u64) -> u32;
+    fn embulgri_head_matrix_entry(packet: *const u8, n: usize, i: u64, value: *mut u64) -> u32;
     fn embulgri_tags_read(packet: *const u8, n: usize, count: *mut u64) -> u32;
     fn embulgri_tags_vendor(packet: *const u8, n: usize, part: *mut u64) -> u32;
     fn embulgri_tags_comment(packet: *const u8, n: usize, i: u64, part: *mut u64) -> u32;
@@ -119,17 +123,32 @@ pub fn head_read(packet: &[u8], fields: &mut [u64; 8], mapping: &mut [u8; PLACES
 }
 
 pub fn head_write(head: &Head, out: &mut [u8], written: &mut u64) -> u32 {
-    // SAFETY: the fields and the mapping have the places that are read; `out` goes with the length
-    // of its own slice; `out` and `written` are borrowed mutably, so they overlap nothing.
+    // SAFETY: the fields and the mapping have the places that are read; the matrix and `out` go each
+    // with the length of its own slice; `out` and `written` are borrowed mutably, so they overlap
+    // nothing.
     unsafe {
         embulgri_head_write(
             head.fields().as_ptr(),
             head.mapping.as_ptr(),
+            head.matrix.as_ptr(),
+            head.matrix.len(),
             out.as_mut_ptr(),
             out.len(),
             written,
         )
     }
+}
+
+pub fn head_matrix(packet: &[u8], part: &mut [u64; 2]) -> u32 {
+    // SAFETY: the pointer and the length are those of one slice; `part` has the two places that are
+    // written.
+    unsafe { embulgri_head_matrix(packet.as_ptr(), packet.len(), part.as_mut_ptr()) }
+}
+
+pub fn head_matrix_entry(packet: &[u8], number: u64, value: &mut u64) -> u32 {
+    // SAFETY: the pointer and the length are those of one slice; `value` is the one place that is
+    // written.
+    unsafe { embulgri_head_matrix_entry(packet.as_ptr(), packet.len(), number, value) }
 }
 
 pub fn tags_read(packet: &[u8], count: &mut u64) -> u32 {

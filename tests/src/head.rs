@@ -1,8 +1,9 @@
-//! Reading and writing of identification headers, straight from RFC 7845 (section 5.1) and the
-//! rules in docs/PROMISES.md. Written for clearness and independent of the library: its answers are
-//! what the library's are held to.
+//! Reading and writing of identification headers, straight from RFC 7845 (section 5.1), RFC 8486
+//! (section 3) and the rules in docs/PROMISES.md. Written for clearness and independent of the
+//! library: its answers are what the library's are held to.
 
 use crate::ogg::{take, NO_ROOM};
+use crate::tags::LONGEST;
 
 /// The signature is wrong, the version is not read, or the length is not one that the version allows.
 pub const BAD_HEAD: u32 = 12;
@@ -20,10 +21,18 @@ pub const WRITTEN: u64 = 1;
 
 /// The length of a header without a channel mapping table.
 pub const SHORTEST: usize = 19;
-/// The places in a header of its version, its number of channels and its family.
+/// The places in a header of its version, its number of channels, its family and its two counts, and
+/// of the indices or the matrix after them.
 pub const VERSION: usize = 8;
 pub const CHANNELS: usize = 9;
 pub const FAMILY: usize = 18;
+pub const STREAMS: usize = 19;
+pub const COUPLED: usize = 20;
+pub const TABLE: usize = 21;
+
+/// The families of ambisonics: the channels themselves, and channels mixed by a matrix.
+pub const AMBISONICS: u64 = 2;
+pub const MATRIX: u64 = 3;
 
 /// The widths in bits of the eight fields in their order.
 pub const WIDTHS: [u32; 8] = [8, 8, 16, 32, 16, 8, 8, 8];
@@ -33,7 +42,7 @@ pub const PLACES: usize = 255;
 pub const SILENCE: u8 = 255;
 
 /// A header, or what a writer is asked to make one of: the fields are as wide as the writer takes
-/// them. The output gain is its 16 bits.
+/// them. The output gain is its 16 bits. The matrix is its bytes, none in a family that has no matrix.
 #[derive(Clone, Debug, PartialEq, Eq)]
 pub struct Head {
     pub version: u64,
@@ -45,10 +54,11 @@ pub struct Head {
     pub streams: u64,
     pub coupled: u64,
     pub mapping: [u8; PLACES],
+    pub matrix: Vec<u8>,
 }
 
 impl Head {
-    pub fn new(fields: [u64; 8], mapping: [u8; PLACES]) -> Head {
+    pub fn new(fields: [u64; 8], mapping: [u8; PLACES], matrix: Vec<u8>) -> Head {
         let [version, channels, pre_skip, rate, gain, family, streams, coupled] = fields;
         Head {
             version,
@@ -60,7 +70,13 @@ impl Head {
             streams,
             coupled,
             mapping,
+            matrix,
         }
+    }
+
+    /// The same mapping and matrix with other fields.
+    pub fn with_fields(&self, fields: [u64; 8]) -> Head {
+        Head::new(fields, self.mapping, self.matrix.clone())
     }
 
     /// The eight numbers that reading gives.
@@ -79,51 +95,88 @@ impl Head {
 
     /// The length in bytes of the header once written, by the low bits of the fields.
     pub fn length(&self) -> usize {
-        match self.family as u8 {
-            0 => SHORTEST,
-            _ => SHORTEST + 2 + usize::from(self.channels as u8),
+        let channels = usize::from(self.channels as u8);
+        let [streams, coupled] = [self.streams, self.coupled].map(|count| count as u8);
+        length_of(self.family as u8, channels, [streams, coupled])
+    }
+
+    /// How many places of the mapping are indices.
+    pub fn indices(&self) -> usize {
+        match self.family {
+            MATRIX => 0,
+            _ => self.channels as usize,
         }
     }
 
     /// Whether the writer takes it.
     pub fn is_writable(&self) -> bool {
-        self.version == WRITTEN && self.is_legal_but_for_its_version()
+        self.version == WRITTEN
+            && self.is_legal_but_for_its_version()
+            && self.matrix.len() == self.matrix_length()
     }
 
-    /// Whether reading can have given it, so that opening part way takes it.
+    /// Whether reading can have given its fields and its mapping, so that opening part way takes it.
     pub fn is_readable(&self) -> bool {
         self.version <= LAST_READ && self.is_legal_but_for_its_version()
+    }
+
+    /// The bytes of the matrix that the fields ask for.
+    fn matrix_length(&self) -> usize {
+        match self.family {
+            MATRIX => self.length() - TABLE,
+            _ => 0,
+        }
     }
 
     fn is_legal_but_for_its_version(&self) -> bool {
         let mut sized = self.fields().into_iter().zip(WIDTHS);
         sized.all(|(field, width)| field >> width == 0)
+            && self.length() <= LONGEST
             && self.has_legal_mapping()
             && (self.family != 0 || self.has_table_of_family_0())
-            && self.mapping[self.channels as usize..] == [0; PLACES][self.channels as usize..]
+            && self.mapping[self.indices()..] == [0; PLACES][self.indices()..]
     }
 
     /// Whether the channel mapping is right, all fields being within their widths.
     fn has_legal_mapping(&self) -> bool {
-        let most_channels = match self.family {
-            0 => 2,
-            1 => 8,
-            255 => 255,
-            _ => return false,
+        let is_counted = match self.family {
+            0 => (1..=2).contains(&self.channels),
+            1 => (1..=8).contains(&self.channels),
+            AMBISONICS | MATRIX => is_ambisonic(self.channels),
+            255 => self.channels >= 1,
+            _ => false,
         };
         let decoded = self.streams + self.coupled;
         let is_legal = |&index: &u8| u64::from(index) < decoded || index == SILENCE;
-        (1..=most_channels).contains(&self.channels)
+        is_counted
             && self.streams >= 1
             && self.coupled <= self.streams
             && decoded <= 255
-            && self.mapping[..self.channels as usize].iter().all(is_legal)
+            && self.mapping[..self.indices()].iter().all(is_legal)
     }
 
     /// Whether the table is the one that family 0 does not spell out, for one or two channels.
     fn has_table_of_family_0(&self) -> bool {
         let indices = &self.mapping[..self.channels as usize];
         (self.streams, self.coupled) == (1, self.channels - 1) && [0, 1].starts_with(indices)
+    }
+}
+
+/// Whether ambisonics have so many channels: the square of the order plus one, and two more or none.
+fn is_ambisonic(channels: u64) -> bool {
+    let squares = (0..=14).map(|order| (1 + order) * (1 + order));
+    squares
+        .flat_map(|square| [square, square + 2])
+        .any(|count| count == channels)
+}
+
+/// The length in bytes of a header's fields, by its family, its channels and its two counts.
+pub fn length_of(family: u8, channels: usize, counts: [u8; 2]) -> usize {
+    let [streams, coupled] = counts.map(usize::from);
+    match family.into() {
+        0 => SHORTEST,
+        MATRIX => TABLE + 2 * (streams + coupled) * channels,
+        _ => TABLE + channels,
     }
 }
 
@@ -137,7 +190,11 @@ pub fn encode(head: &Head) -> Vec<u8> {
     bytes.push(head.family as u8);
     if head.family as u8 != 0 {
         bytes.extend([head.streams as u8, head.coupled as u8]);
-        bytes.extend(&head.mapping[..usize::from(head.channels as u8)]);
+    }
+    match u64::from(head.family as u8) {
+        0 => (),
+        MATRIX => bytes.extend(&head.matrix),
+        _ => bytes.extend(&head.mapping[..usize::from(head.channels as u8)]),
     }
     bytes
 }
@@ -175,15 +232,26 @@ fn split(packet: &[u8]) -> Option<Head> {
     let rate = u32::from_le_bytes(take(&mut rest)?);
     let gain = i16::from_le_bytes(take(&mut rest)?);
     let [family] = take(&mut rest)?;
-    let (streams, coupled, indices) = if family == 0 {
-        (1, channels.saturating_sub(1), (0..channels).collect())
+    let mut mapping = [0; PLACES];
+    let mut matrix = Vec::new();
+    let (streams, coupled) = if family == 0 {
+        for (place, index) in mapping.iter_mut().zip(0..channels) {
+            *place = index;
+        }
+        (1, channels.saturating_sub(1))
     } else {
         let [streams, coupled] = take(&mut rest)?;
-        let indices = rest.split_off(..usize::from(channels))?;
-        (streams, coupled, indices.to_vec())
+        let length = length_of(family, channels.into(), [streams, coupled]);
+        if length > LONGEST {
+            return None;
+        }
+        let table = rest.split_off(..length - TABLE)?;
+        match family.into() {
+            MATRIX => matrix.extend(table),
+            _ => mapping[..table.len()].copy_from_slice(table),
+        }
+        (streams, coupled)
     };
-    let mut mapping = [0; PLACES];
-    mapping[..indices.len()].copy_from_slice(&indices);
     let head = Head {
         version: version.into(),
         channels: channels.into(),
@@ -194,6 +262,7 @@ fn split(packet: &[u8]) -> Option<Head> {
         streams: streams.into(),
         coupled: coupled.into(),
         mapping,
+        matrix,
     };
     let is_whole = rest.is_empty() || head.version > LAST_EXACT;
     (is_whole && head.version <= LAST_READ).then_some(head)

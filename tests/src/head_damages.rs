@@ -1,102 +1,20 @@
-//! The ways to make the channel mapping of an identification header wrong, and to damage the bytes
-//! of one before it is read.
+//! The ways to damage the bytes of an identification header before it is read.
 
 use crate::head::{
-    encode, Head, BAD_HEAD, BAD_MAPPING, CHANNELS, FAMILY, PLACES, SHORTEST, UNFIT_FIELDS, VERSION,
+    encode, length_of, Head, BAD_HEAD, BAD_MAPPING, CHANNELS, COUPLED, FAMILY, MATRIX, PLACES,
+    SHORTEST, STREAMS, TABLE, VERSION,
 };
-use crate::head_inputs::{head, head_with_table, index, more_bytes, with_table, without_table};
+use crate::head_inputs::{
+    head, head_with_matrix, head_with_table, index, long_matrix, more_bytes, version,
+};
 use crate::inputs::{change, Change};
-use crate::ogg::NO_ROOM;
 use crate::random::Random;
-
-/// What comes of a legal header that is written is up to the room.
-pub const LEGAL: Change<Head> = change("a legal header", &[0, NO_ROOM], |_, _| ());
-
-/// What reading and writing answer to a wrong channel mapping.
-const WRONG: &[u32] = &[BAD_MAPPING, UNFIT_FIELDS];
 
 /// What comes of a whole header is up to its channel mapping.
 const WHOLE: &[u32] = &[0, BAD_MAPPING];
 
 /// What can come of other bytes.
 const ANY: &[u32] = &[0, BAD_HEAD, BAD_MAPPING];
-
-/// The ways to make a channel mapping wrong by one rule only, where it can be.
-pub const WRONG_MAPPINGS: &[Change<Head>] = &[
-    change("family 0 of no channels", WRONG, |random, head| {
-        *head = without_table(random, 0)
-    }),
-    change("family 0 of 3 channels", WRONG, |random, head| {
-        *head = without_table(random, 3)
-    }),
-    change("family 0 of 3 to 255 channels", WRONG, |random, head| {
-        let channels = random.within(3..=PLACES);
-        *head = without_table(random, channels)
-    }),
-    change("a table of no channels", WRONG, |random, head| {
-        let family = *random.pick(&[1, 255]);
-        *head = with_table(random, family, 0, (1, 1))
-    }),
-    change("family 1 of 9 channels", WRONG, |random, head| {
-        *head = with_table(random, 1, 9, (5, 4))
-    }),
-    change("family 1 of 9 to 255 channels", WRONG, |random, head| {
-        let channels = random.within(9..=PLACES);
-        *head = with_table(random, 1, channels, (5, 4))
-    }),
-    change("family 2", WRONG, |random, head| {
-        let channels = random.within(1..=8);
-        *head = with_table(random, 2, channels, (1, 1))
-    }),
-    change("another unknown family", WRONG, |random, head| {
-        *head = head_with_table(random);
-        head.family = random.within(2..=254) as u64
-    }),
-    change("no streams", WRONG, |random, head| {
-        other_counts(random, head, (0, 0))
-    }),
-    change("no streams and a coupled one", WRONG, |random, head| {
-        other_counts(random, head, (0, 1))
-    }),
-    change(
-        "one coupled stream more than streams",
-        WRONG,
-        |random, head| {
-            let streams = random.within(1..=127);
-            other_counts(random, head, (streams, streams + 1))
-        },
-    ),
-    change(
-        "more coupled streams than streams",
-        WRONG,
-        |random, head| {
-            let streams = random.within(1..=127);
-            let coupled = random.within(streams + 1..=255 - streams);
-            other_counts(random, head, (streams, coupled))
-        },
-    ),
-    change("counts of 256 in all", WRONG, |random, head| {
-        let streams = random.within(128..=255);
-        other_counts(random, head, (streams, 256 - streams))
-    }),
-    change("counts of 257 to 510 in all", WRONG, |random, head| {
-        let streams = random.within(129..=255);
-        let coupled = random.within(257 - streams..=streams);
-        other_counts(random, head, (streams, coupled))
-    }),
-    change("an index one too high", WRONG, |random, head| {
-        let decoded = few_decoded(random, head);
-        *any_index(random, head) = decoded
-    }),
-    change("an index too high", WRONG, |random, head| {
-        let decoded = few_decoded(random, head);
-        *any_index(random, head) = random.within(decoded.into()..=254) as u8
-    }),
-    change("an index of 254", WRONG, |random, head| {
-        few_decoded(random, head);
-        *any_index(random, head) = 254
-    }),
-];
 
 /// The ways to damage the bytes of a header, whatever its channel mapping.
 pub const DAMAGES: &[Change<Vec<u8>>] = &[
@@ -206,6 +124,71 @@ pub const DAMAGES: &[Change<Vec<u8>>] = &[
             packet[FAMILY] = random.within(1..=255) as u8
         },
     ),
+    change(
+        "another count of a matrix in version 0 or 1",
+        &[BAD_HEAD],
+        |random, packet| {
+            *packet = encode(&head_with_matrix(random));
+            make_exact(random, packet);
+            let place = *random.pick(&[STREAMS, COUPLED]);
+            another_value(random, packet, place)
+        },
+    ),
+    change(
+        "another count of a matrix in version 2 to 15",
+        ANY,
+        |random, packet| {
+            *packet = encode(&head_with_matrix(random));
+            make_extensible(random, packet);
+            let place = *random.pick(&[STREAMS, COUPLED]);
+            another_value(random, packet, place)
+        },
+    ),
+    change(
+        "a matrix one entry too short",
+        &[BAD_HEAD],
+        |random, packet| {
+            *packet = encode(&matrix_to_read(random));
+            packet.truncate(packet.len() - 2)
+        },
+    ),
+    change(
+        "a matrix one entry too long in version 0 or 1",
+        &[BAD_HEAD],
+        |random, packet| {
+            *packet = encode(&head_with_matrix(random));
+            make_exact(random, packet);
+            packet.extend(random.bytes(2))
+        },
+    ),
+    change(
+        "a header with a matrix cut at its counts",
+        &[BAD_HEAD],
+        |random, packet| {
+            *packet = encode(&matrix_to_read(random));
+            packet.truncate(*random.pick(&[STREAMS, COUPLED, TABLE, TABLE + 1]))
+        },
+    ),
+    change(
+        "a matrix past the longest header",
+        &[BAD_HEAD],
+        |random, packet| {
+            let head = long_matrix(random);
+            *packet = encode(&Head {
+                version: version(random),
+                ..head
+            })
+        },
+    ),
+    change("indices taken for a matrix", ANY, |random, packet| {
+        *packet = encode(&head_with_table(random));
+        packet[VERSION] = version(random) as u8;
+        packet[FAMILY] = MATRIX as u8
+    }),
+    change("a matrix taken for indices", ANY, |random, packet| {
+        *packet = encode(&matrix_to_read(random));
+        packet[FAMILY] = *random.pick(&[0, 1, 2, 255])
+    }),
     change("random bytes", &[BAD_HEAD], |random, packet| {
         let length = random.below(300);
         *packet = random.bytes(length)
@@ -217,40 +200,22 @@ pub const DAMAGES: &[Change<Vec<u8>>] = &[
     ),
 ];
 
-/// Takes another table with these counts.
-fn other_counts(random: &mut Random, head: &mut Head, counts: (usize, usize)) {
-    let Head {
-        family, channels, ..
-    } = head_with_table(random);
-    *head = with_table(random, family, channels as usize, counts);
-}
-
-/// Takes another table that leaves indices between those of the channels decoded and 255, and gives
-/// the first of them.
-fn few_decoded(random: &mut Random, head: &mut Head) -> u8 {
-    let counts = match random.below(4) {
-        0 => (127, 127),
-        1 => (254, 0),
-        _ => (random.within(8..=100), random.below(8)),
-    };
-    other_counts(random, head, counts);
-    (counts.0 + counts.1) as u8
-}
-
-fn any_index<'a>(random: &mut Random, head: &'a mut Head) -> &'a mut u8 {
-    &mut head.mapping[random.below(head.channels as usize)]
-}
-
 fn another_value(random: &mut Random, packet: &mut [u8], place: usize) {
     packet[place] ^= random.within(1..=255) as u8;
 }
 
+/// A legal header of family 3 and of any version that is read.
+fn matrix_to_read(random: &mut Random) -> Head {
+    Head {
+        version: version(random),
+        ..head_with_matrix(random)
+    }
+}
+
 /// How many bytes the fields take that the start of a header tells of.
 fn fields_length(packet: &[u8]) -> usize {
-    match packet[FAMILY] {
-        0 => SHORTEST,
-        _ => SHORTEST + 2 + usize::from(packet[CHANNELS]),
-    }
+    let counts = packet.get(STREAMS..TABLE).map_or([0; 2], |c| [c[0], c[1]]);
+    length_of(packet[FAMILY], packet[CHANNELS].into(), counts)
 }
 
 /// Leaves the fields alone, in a version that has no bytes after them.
@@ -268,18 +233,21 @@ fn make_extensible(random: &mut Random, packet: &mut Vec<u8>) {
 /// Random bytes but for the signature, the version and often the family; the length is mostly the
 /// right one, and the indices are often of a few channels.
 fn random_header(random: &mut Random, packet: &mut Vec<u8>) {
-    *packet = random.bytes(SHORTEST + 2 + PLACES);
+    *packet = random.bytes(TABLE + PLACES);
     packet[..VERSION].copy_from_slice(b"OpusHead");
     packet[VERSION] = random.within(0..=17) as u8;
-    packet[FAMILY] = *random.pick(&[0, 1, 1, 255, 255, packet[FAMILY]]);
+    packet[FAMILY] = *random.pick(&[0, 1, 1, 2, 3, 255, 255, packet[FAMILY]]);
     packet[CHANNELS] >>= random.below(8);
     if random.one_in(2) {
         packet[SHORTEST..][..2].copy_from_slice(&[4, 2]);
-        packet[SHORTEST + 2..].fill_with(|| index(random, 6));
+        packet[TABLE..].fill_with(|| index(random, 6));
     }
+    let exact = fields_length(packet);
+    let more = random.bytes((exact + 1).saturating_sub(packet.len()));
+    packet.extend(more);
     match random.below(8) {
-        0..=1 => packet.truncate(fields_length(packet) - 1),
-        2 => packet.truncate(fields_length(packet) + 1),
-        _ => packet.truncate(fields_length(packet)),
+        0..=1 => packet.truncate(exact - 1),
+        2 => packet.truncate(exact + 1),
+        _ => packet.truncate(exact),
     }
 }

@@ -2,7 +2,9 @@
 //! channel mapping: what reading never gives, and versions that are only read.
 
 use crate::head::{Head, PLACES, UNFIT_FIELDS, WIDTHS};
-use crate::head_inputs::{head_of_family_0, head_with_table, without_table};
+use crate::head_inputs::{
+    head_of_family_0, head_with_matrix, head_with_table, long_matrix, without_table,
+};
 use crate::inputs::{change, Change};
 use crate::random::Random;
 
@@ -15,6 +17,42 @@ pub const READ_VERSIONS: &[Change<Head>] = &[
     change("version 15", UNFIT, |_, head| head.version = 15),
     change("a version from 2 to 15", UNFIT, |random, head| {
         head.version = random.within(2..=15) as u64
+    }),
+];
+
+/// The ways to give the writer a matrix of a length that the fields do not ask for. Opening part way
+/// is given none.
+pub const MATRICES: &[Change<Head>] = &[
+    change("a matrix one byte short", UNFIT, |random, head| {
+        *head = head_with_matrix(random);
+        head.matrix.pop();
+    }),
+    change("a matrix one byte long", UNFIT, |random, head| {
+        *head = head_with_matrix(random);
+        head.matrix.push(random.byte())
+    }),
+    change("a matrix one entry short", UNFIT, |random, head| {
+        *head = head_with_matrix(random);
+        head.matrix.truncate(head.matrix.len() - 2)
+    }),
+    change("a matrix one entry long", UNFIT, |random, head| {
+        *head = head_with_matrix(random);
+        head.matrix.extend(random.bytes(2))
+    }),
+    change("a matrix of another length", UNFIT, |random, head| {
+        *head = head_with_matrix(random);
+        let length = head.matrix.len() + random.within(1..=600);
+        head.matrix = random.bytes(length)
+    }),
+    change("no matrix in family 3", UNFIT, |random, head| {
+        *head = head_with_matrix(random);
+        head.matrix.clear()
+    }),
+    change("a matrix in another family", UNFIT, |random, head| {
+        *head = without_matrix(random);
+        let right = 2 * (head.streams + head.coupled) * head.channels;
+        let length = *random.pick(&[1, 2, right as usize]);
+        head.matrix = random.bytes(length)
     }),
 ];
 
@@ -45,7 +83,7 @@ pub const DEMANDS: &[Change<Head>] = &[
     ),
     change("the first unused place not zero", UNFIT, |random, head| {
         spare_places(random, head);
-        put_other(random, head, head.channels as usize)
+        put_other(random, head, head.indices())
     }),
     change("the last unused place not zero", UNFIT, |random, head| {
         spare_places(random, head);
@@ -53,8 +91,16 @@ pub const DEMANDS: &[Change<Head>] = &[
     }),
     change("an unused place not zero", UNFIT, |random, head| {
         spare_places(random, head);
-        let place = random.within(head.channels as usize..=PLACES - 1);
+        let place = random.within(head.indices()..=PLACES - 1);
         put_other(random, head, place)
+    }),
+    change("a place not zero beside a matrix", UNFIT, |random, head| {
+        *head = head_with_matrix(random);
+        let place = *random.pick(&[0, head.channels as usize - 1, PLACES - 1]);
+        put_other(random, head, place)
+    }),
+    change("a matrix past the longest header", UNFIT, |random, head| {
+        *head = long_matrix(random)
     }),
     change("family 0 of another stream count", UNFIT, |random, head| {
         *head = head_of_family_0(random);
@@ -85,12 +131,20 @@ fn set_bit(random: &mut Random, head: &mut Head, bit: fn(&mut Random, u32) -> u3
     let mut fields = head.fields();
     let place = random.below(fields.len());
     fields[place] |= 1 << bit(random, WIDTHS[place]);
-    *head = Head::new(fields, head.mapping);
+    *head = head.with_fields(fields);
+}
+
+/// A legal header of any family but 3.
+fn without_matrix(random: &mut Random) -> Head {
+    match random.one_in(4) {
+        true => head_of_family_0(random),
+        false => head_with_table(random),
+    }
 }
 
 /// Takes another header if this one uses all the places.
 fn spare_places(random: &mut Random, head: &mut Head) {
-    while head.channels as usize == PLACES {
+    while head.indices() == PLACES {
         *head = head_with_table(random);
     }
 }

@@ -1,8 +1,15 @@
 //! Legal identification headers of all shapes for the random runs, and a fixed set of them. They are
 //! of the version that is written, unless another is asked for.
 
-use crate::head::{encode, Head, LAST_EXACT, PLACES, SILENCE, WRITTEN};
+use crate::head::{encode, Head, AMBISONICS, LAST_EXACT, MATRIX, PLACES, SILENCE, TABLE, WRITTEN};
 use crate::random::Random;
+use crate::tags::LONGEST;
+
+/// The numbers of channels that ambisonics can have.
+pub const AMBISONIC: [usize; 30] = [
+    1, 3, 4, 6, 9, 11, 16, 18, 25, 27, 36, 38, 49, 51, 64, 66, 81, 83, 100, 102, 121, 123, 144,
+    146, 169, 171, 196, 198, 225, 227,
+];
 
 /// Stream counts and coupled counts that are legal, at the ends of what they can be.
 pub const COUNTS: [(usize, usize); 10] = [
@@ -20,10 +27,10 @@ pub const COUNTS: [(usize, usize); 10] = [
 
 /// A legal header of any family.
 pub fn head(random: &mut Random) -> Head {
-    if random.one_in(4) {
-        head_of_family_0(random)
-    } else {
-        head_with_table(random)
+    match random.below(8) {
+        0..=1 => head_of_family_0(random),
+        2..=3 => head_with_matrix(random),
+        _ => head_with_table(random),
     }
 }
 
@@ -43,11 +50,13 @@ pub fn version(random: &mut Random) -> u64 {
     }
 }
 
-/// The bytes of a header to be read: where its version may have more than the fields, often some.
+/// The bytes of a header to be read: where its version may have more than the fields, often some, as
+/// long as they are a packet that can be fed.
 pub fn packet(random: &mut Random, head: &Head) -> Vec<u8> {
     let mut bytes = encode(head);
     if head.version > LAST_EXACT && !random.one_in(3) {
         bytes.extend(more_bytes(random));
+        bytes.truncate(LONGEST);
     }
     bytes
 }
@@ -71,10 +80,11 @@ pub fn head_of_family_0(random: &mut Random) -> Head {
     without_table(random, channels)
 }
 
-/// A legal header of family 1 or 255.
+/// A legal header of family 1, 2 or 255.
 pub fn head_with_table(random: &mut Random) -> Head {
-    let (family, most) = *random.pick(&[(1, 8), (255, PLACES)]);
+    let (family, most) = *random.pick(&[(1, 8), (AMBISONICS, 227), (255, PLACES)]);
     let channels = match random.below(8) {
+        _ if family == AMBISONICS => *random.pick(&AMBISONIC),
         0 => 1,
         1 => most,
         2..=4 => random.within(1..=8),
@@ -84,8 +94,54 @@ pub fn head_with_table(random: &mut Random) -> Head {
     with_table(random, family, channels, counts)
 }
 
-/// A header of a family other than 0, of which only the family and the number of channels can be
-/// wrong.
+/// A legal header of family 3, mostly with a matrix of few entries.
+pub fn head_with_matrix(random: &mut Random) -> Head {
+    let most = if random.one_in(16) { LONGEST } else { 1_500 };
+    let (channels, counts) = loop {
+        let channels = match random.one_in(4) {
+            true => *random.pick(&AMBISONIC),
+            false => *random.pick(&AMBISONIC[..6]),
+        };
+        let counts = counts(random);
+        if TABLE + matrix_length(channels, counts) <= most {
+            break (channels, counts);
+        }
+    };
+    with_matrix(random, channels, counts)
+}
+
+/// A header of family 3, of which the number of channels, the counts and so the length can be wrong.
+pub fn with_matrix(random: &mut Random, channels: usize, counts: (usize, usize)) -> Head {
+    let length = matrix_length(channels, counts);
+    Head {
+        matrix: match random.one_in(16) {
+            true => vec![*random.pick(&[0, 0x7f, 0x80, 0xff]); length],
+            false => random.bytes(length),
+        },
+        mapping: [0; PLACES],
+        ..with_table(random, MATRIX, channels, counts)
+    }
+}
+
+/// A header of family 3 that is right but for its length, which is above that of any header.
+pub fn long_matrix(random: &mut Random) -> Head {
+    let channels = *random.pick(&AMBISONIC[20..]);
+    let least = (LONGEST - TABLE) / (2 * channels) + 1;
+    let decoded = match random.one_in(2) {
+        true => least,
+        false => random.within(least..=255),
+    };
+    let coupled = random.within(0..=decoded / 2);
+    with_matrix(random, channels, (decoded - coupled, coupled))
+}
+
+/// The bytes of a matrix of so many channels and with these counts.
+pub fn matrix_length(channels: usize, (streams, coupled): (usize, usize)) -> usize {
+    2 * (streams + coupled) * channels
+}
+
+/// A header of a family that has indices in it, of which only the family and the number of channels
+/// can be wrong.
 pub fn with_table(
     random: &mut Random,
     family: u64,
@@ -138,6 +194,12 @@ pub fn legal_set(random: &mut Random) -> Vec<Head> {
     for ((family, channels), counts) in first.chain(last).zip(COUNTS.into_iter().cycle()) {
         set.push(with_table(random, family, channels, counts));
     }
+    for (channels, counts) in [1, 3, 4, 18, 227].into_iter().zip(COUNTS) {
+        set.push(with_table(random, AMBISONICS, channels, counts));
+    }
+    for (channels, counts) in [1, 3, 4, 6, 9].into_iter().zip(COUNTS) {
+        set.push(with_matrix(random, channels, counts));
+    }
     set
 }
 
@@ -170,6 +232,7 @@ fn blank(random: &mut Random) -> Head {
         streams: 0,
         coupled: 0,
         mapping: [0; PLACES],
+        matrix: Vec::new(),
     }
 }
 

@@ -21,6 +21,8 @@ pub mod head;
 pub mod head_damages;
 pub mod head_demands;
 pub mod head_inputs;
+pub mod head_mappings;
+pub mod head_matrix;
 pub mod inputs;
 pub mod ogg;
 pub mod opus;

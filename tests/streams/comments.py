@@ -45,9 +45,10 @@ def tags_lines(reader, last):
     head, tags = reader.head, reader.tags
     if not tags:
         return f'{last}\n'.encode() if last.startswith('refused ') else b''
+    table = ['matrix', *head.matrix] if head.family == 3 else ['mapping', *head.mapping]
     lines = [f'version {head.version}', f'channels {head.channels}', f'preskip {head.pre_skip}', f'rate {head.rate}',
              f'gain {head.gain}\t{decibels(head.gain)}', f'family {head.family}', f'streams {head.streams}',
-             f'coupled {head.coupled}', ' '.join(map(str, ['mapping', *head.mapping])),
+             f'coupled {head.coupled}', ' '.join(map(str, table)),
              f'vendor {shown(tags.vendor)}', f'comments {len(tags.comments)}', *map(comment_line, tags.comments)]
     return ''.join(line + '\n' for line in lines).encode()
 

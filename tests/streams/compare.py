@@ -114,6 +114,13 @@ def commented(comment):
     return b'\t' + comment + b'\n'
 
 
+def demixing(head):
+    """The matrix as opusinfo shows it, a row for each output channel; the header has it by columns (RFC 8486, 3.2)."""
+    columns = head.streams + head.coupled
+    rows = (', '.join(f'{entry:6}' for entry in head.matrix[row::head.channels]) for row in range(head.channels))
+    return '\n'.join([f'\tDemixing Matrix [{head.channels}x{columns}]:', *(f'\t[{row}]' for row in rows)])
+
+
 def told_lines(reader):
     """Lines that opusinfo prints of the identification header and of the packets."""
     head, durs = reader.head, [entry.dur / 48 for entry in reader.entries]
@@ -122,7 +129,9 @@ def told_lines(reader):
         lines.append(f'Original sample rate: {head.rate} Hz')
     if head.streams > 1:
         lines.append(f'Streams: {head.streams}, Coupled: {head.coupled}')
-    if head.family:
+    if head.family == 3:
+        lines.append('Channel Mapping Family: 3\n' + demixing(head))
+    elif head.family:
         lines.append(f'Channel Mapping Family: {head.family} Map: [{", ".join(map(str, head.mapping))}]')
     average = sum(durs) / len(durs)
     lines.append(f'Packet duration: {max(durs):6.1f}ms (max), {average:6.1f}ms (avg), {min(durs):6.1f}ms (min)')
@@ -174,7 +183,7 @@ def compare(path, options, findings):
             findings.fault(path, f'{program}: line ' + first_difference(told.split(b'\n'), wanted.split(b'\n')))
     if options.refused:
         return
-    if not options.without_ffprobe:
+    if not options.without_ffprobe and reader.head.family != 3:         # ffprobe reads no stream of family 3
         compare_ffprobe(path, reader, findings)
     compare_opusinfo(path, reader, findings)
 

@@ -8,10 +8,8 @@ Prints what the program `list` prints: `end dur frames kept`, a line for each pa
 import sys
 from typing import NamedTuple
 
-from opus import read_head, read_packet, read_tags
+from opus import LONGEST_PACKET, read_head, read_packet, read_tags
 from pages import CONTINUED, FIRST, LAST, NO_GRANULE, Refused, cut, packets_of, read_page, refuse
-
-LONGEST_PACKET = 61440
 
 
 class Entry(NamedTuple):

@@ -83,7 +83,8 @@ def frames_stream(streams):
 def version_streams():
     """(version, bytes, bytes in version 1) of the short stream with headers that are read. From version 2 on bytes may
     follow the fields; with 236 the header of family 0 is 255 bytes long."""
-    for fields in (2,), (1, 255, bytes([1, 0, 255])):
+    matrix = bytes([1, 1]) + struct.pack('<6h', 16384, -16384, 0, 1, 32767, -32768)
+    for fields in (2,), (1, 255, bytes([1, 0, 255])), (3, 2, bytes([1, 1, 0, 255, 1])), (3, 3, matrix):
         same = short_stream(first=head(*fields))
         for version, sizes in (0, [0]), (2, [0, 1, 236]), (15, [0, 10, 3000]):
             for size in sizes:
@@ -100,6 +101,55 @@ def wrong_version_streams():
     yield 'version 2 and another packet', stream([whole(FIRST, 0, first, b'more'), second])
     yield 'version 2 over two pages', stream([(FIRST, NO_GRANULE, b'\xff', first.ljust(255, b'\0')),
                                               whole(CONTINUED, 0, b'more'), second])
+
+
+def ambisonic_streams():
+    """(name, bytes, the line that `tags` prints of the table) of streams of families 2 and 3: headers of few channels
+    and of many, up to the longest."""
+    for channels, streams, coupled in (1, 1, 0), (3, 1, 1), (4, 3, 1), (6, 5, 1), (227, 128, 127):
+        indices = [(7 * i) % (streams + coupled) if i % 5 else 255 for i in range(channels)]
+        first = head(channels, 2, bytes([streams, coupled, *indices]))
+        line = f'mapping {" ".join(map(str, indices))}'
+        yield f'family 2, {channels} channels', streams_stream(first, streams), line
+    for channels, streams, coupled in (1, 1, 0), (3, 1, 1), (4, 2, 2), (11, 6, 5), (198, 155, 0), (198, 78, 77):
+        count = (streams + coupled) * channels
+        entries = [0, 1, -1, 32767, -32768, 256, -256, 128, *(i * 40503 % 65536 - 32768 for i in range(count))][:count]
+        table = bytes([streams, coupled]) + struct.pack(f'<{count}h', *entries)
+        for version, more in (0, 0), (1, 0), (2, 0), (2, 39), (15, 2):
+            yield (f'family 3, {channels} channels, version {version}, {more} bytes more',
+                   streams_stream(head(channels, 3, table, version) + b'\xee' * more, streams),
+                   f'matrix {" ".join(map(str, entries))}')
+
+
+def streams_stream(first, streams):
+    """A stream of this header, with two packets of 960 samples in each of so many streams."""
+    packet = constant(960, 1, 1, True) * (streams - 1) + constant(960, 1, 1, False)
+    return stream([whole(FIRST, 0, first), whole(0, 0, tags(b'TITLE=round')), whole(0, 960, packet),
+                   whole(LAST, 1900, packet)])
+
+
+def wrong_ambisonic_streams():
+    """(name, bytes) of streams of families 2 and 3 that are refused for their first header."""
+    for channels in 0, 2, 5, 7, 224, 226, 228, 255:
+        for family, size in (2, channels), (3, 10 * channels):
+            first = head(channels, family, bytes([3, 2]) + bytes(size))
+            yield f'family {family}, {channels} channels', streams_stream(first, 3)
+    yield 'family 2, an index too high', streams_stream(head(4, 2, bytes([2, 2, 0, 1, 2, 4])), 2)
+    yield 'family 4', streams_stream(head(4, 4, bytes([2, 2, 0, 1, 2, 3])), 2)
+    for streams, coupled in (0, 0), (0, 1), (1, 2), (128, 128), (255, 255):
+        size = 2 * (streams + coupled) * 4
+        for more in -1, 0, 1:
+            first = (head(4, 3, bytes([streams, coupled])) + bytes(size + 1))[:21 + size + more]
+            yield f'family 3, {streams} and {coupled} streams, {len(first)} bytes', streams_stream(first, 1)
+    for version in 1, 2:
+        for size in 19, 20, 21, 52, *([54] if version == 1 else []):
+            first = (head(4, 3, bytes([2, 2]), version) + bytes(100))[:size]
+            yield f'family 3, version {version}, {size} bytes for 53', streams_stream(first, 2)
+        for size in 61440, 61441, 61765:
+            first = (head(227, 3, bytes([136, 0]), version) + bytes(62000))[:size]
+            yield f'family 3, version {version}, {size} bytes for 61,765', streams_stream(first, 136)
+    longest = head(198, 3, bytes([155, 0]) + bytes(2 * 155 * 198), 2)
+    yield 'family 3, version 2, 40 bytes more than the longest', streams_stream(longest + bytes(40), 155)
 
 
 def wrong_streams():

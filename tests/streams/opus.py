@@ -1,8 +1,12 @@
-"""Opus packets (RFC 6716, 3 and Appendix B) and the two headers of Ogg Opus (RFC 7845, 5)."""
+"""Opus packets (RFC 6716, 3 and Appendix B) and the two headers of Ogg Opus (RFC 7845, 5; RFC 8486)."""
 import struct
 from typing import NamedTuple
 
 from pages import refuse
+
+LONGEST_PACKET = 61440
+AMBISONIC = {(1 + order) ** 2 + 2 * pairs for order in range(15) for pairs in range(2)}
+CHANNELS = {0: range(1, 3), 1: range(1, 9), 2: AMBISONIC, 3: AMBISONIC, 255: range(1, 256)}     # by the family
 
 
 class Head(NamedTuple):
@@ -15,6 +19,7 @@ class Head(NamedTuple):
     streams: int
     coupled: int
     mapping: bytes
+    matrix: tuple
 
 
 class Tags(NamedTuple):
@@ -84,17 +89,31 @@ def read_packet(data, streams):
     return first.samples, first.frames
 
 
+def head_size(packet):
+    """The bytes that the fields of an identification header take; 12 if it has no counts for a matrix, or if it would
+    be longer than a packet."""
+    channels, family = packet[9], packet[18]
+    if family != 3:
+        return 21 + channels if family else 19
+    refuse(12, len(packet) < 21)
+    size = 21 + 2 * (packet[19] + packet[20]) * channels
+    refuse(12, size > LONGEST_PACKET)
+    return size
+
+
 def read_head(packet):
     """The identification header: of a version up to 15, and from 2 on bytes may follow, which nothing reads."""
     refuse(12, len(packet) < 19 or packet[:8] != b'OpusHead')
     version, channels, pre_skip, rate, gain, family = struct.unpack('<BBHIhB', packet[8:19])
-    size = 21 + channels if family else 19
+    size = head_size(packet)
     refuse(12, version > 15 or len(packet) < size or version < 2 and len(packet) > size)
-    refuse(13, not 1 <= channels <= {0: 2, 1: 8, 255: 255}.get(family, 0))
-    streams, coupled, *mapping = packet[19:size] if family else (1, channels - 1, *range(channels))
+    refuse(13, channels not in CHANNELS.get(family, ()))
+    streams, coupled = packet[19:21] if family else (1, channels - 1)
     refuse(13, streams < 1 or coupled > streams or streams + coupled > 255)
+    table = packet[21:size] if family else bytes(range(channels))
+    mapping, matrix = (b'', struct.unpack(f'<{len(table) // 2}h', table)) if family == 3 else (table, ())
     refuse(13, any(streams + coupled <= index < 255 for index in mapping))
-    return Head(version, channels, pre_skip, rate, gain, family, streams, coupled, bytes(mapping))
+    return Head(version, channels, pre_skip, rate, gain, family, streams, coupled, mapping, matrix)
 
 
 def read_tags(packet):

@@ -5,25 +5,28 @@ use embulgri_tests::calls::{check_head, found_head};
 use embulgri_tests::damages::UNDAMAGED;
 use embulgri_tests::demands::ROOMS;
 use embulgri_tests::head::{encode, BAD_HEAD, BAD_MAPPING, UNFIT_FIELDS, VERSION, WRITTEN};
-use embulgri_tests::head_damages::{DAMAGES, LEGAL, WRONG_MAPPINGS};
-use embulgri_tests::head_demands::{DEMANDS, READ_VERSIONS};
+use embulgri_tests::head_damages::DAMAGES;
+use embulgri_tests::head_demands::{DEMANDS, MATRICES, READ_VERSIONS};
 use embulgri_tests::head_inputs::{head, head_to_read, more_bytes, packet, version};
+use embulgri_tests::head_mappings::{LEGAL, WRONG_MAPPINGS};
 use embulgri_tests::inputs::shifted;
 use embulgri_tests::ogg::NO_ROOM;
 use embulgri_tests::random::Random;
-use embulgri_tests::tally::{Tally, Versions};
+use embulgri_tests::tally::{Classes, Tally, Versions};
 use embulgri_tests::writing::{assert_same_bytes, check_writing, written, Request, BEFORE};
 
 const CASES: usize = 240_000;
 const LEAST_CASES: usize = 200_000;
 const ROUND_TRIPS: usize = 50_000;
 const LEAST_OF_EACH_VERSION: usize = 1_000;
+const LEAST_OF_EACH_FAMILY: usize = 10_000;
 
 #[test]
 fn reading_gives_the_number_the_fields_and_the_mapping_that_the_rules_say() {
     let mut random = Random::of_run(51);
     let mut tally = Tally::default();
     let mut versions = Versions::default();
+    let mut families = Classes::default();
     for number in 0..CASES {
         let mut head = head(&mut random);
         let (mapping, damage) = match random.below(8) {
@@ -41,6 +44,7 @@ fn reading_gives_the_number_the_fields_and_the_mapping_that_the_rules_say() {
         let told = check_head(&buffer[start..], &case);
         if let Ok(head) = &told {
             versions.add(head.version);
+            families.add(format!("headers accepted of family {}", head.family));
         }
         let answer = told.err().unwrap_or(0);
         let answers = match damage.name == UNDAMAGED.name {
@@ -52,6 +56,8 @@ fn reading_gives_the_number_the_fields_and_the_mapping_that_the_rules_say() {
     }
     tally.finish("headers read", LEAST_CASES, &[BAD_HEAD, BAD_MAPPING]);
     versions.finish("headers accepted, by version", 0, LEAST_OF_EACH_VERSION);
+    let known = [0, 1, 2, 3, 255].map(|family| format!("headers accepted of family {family}"));
+    families.finish(&known, LEAST_OF_EACH_FAMILY);
 }
 
 #[test]
@@ -64,6 +70,7 @@ fn writing_gives_the_number_and_the_bytes_that_the_rules_say() {
             0..=1 => random.pick(WRONG_MAPPINGS),
             2..=3 => random.pick(DEMANDS),
             4 => random.pick(READ_VERSIONS),
+            5 => random.pick(MATRICES),
             _ => &LEGAL,
         };
         (demand.apply)(&mut random, &mut head);

@@ -1,12 +1,12 @@
-//! Holds identification headers of every version to RFC 7845 (section 5.1) and the rules in
+//! Holds identification headers of every version to RFC 7845 (section 5.1), RFC 8486 and the rules in
 //! docs/PROMISES.md: read alone, fed as the first page of a stream, and opened part way with.
 
 use embulgri_tests::by_hand::page_of;
 use embulgri_tests::calls::check_head;
 use embulgri_tests::feed_calls::{Feeder, ENOUGH};
 use embulgri_tests::feeding::{FIRST, HEADER_SHAPE, LONG_PACKET};
-use embulgri_tests::head::{encode, Head, BAD_HEAD, BAD_MAPPING, UNFIT_FIELDS};
-use embulgri_tests::head_inputs::{legal_set, with_table, without_table};
+use embulgri_tests::head::{encode, Head, AMBISONICS, BAD_HEAD, BAD_MAPPING, UNFIT_FIELDS};
+use embulgri_tests::head_inputs::{legal_set, with_matrix, with_table, without_table};
 use embulgri_tests::random::Random;
 use embulgri_tests::reader::NUMBERS;
 use embulgri_tests::tags::LONGEST;
@@ -28,8 +28,15 @@ fn shapes(random: &mut Random) -> Vec<(Head, bool)> {
     for (channels, legal) in [(0, false), (1, true), (255, true)] {
         shapes.push((with_table(random, 255, channels, (128, 127)), legal));
     }
+    let ambisonic = [(0, false), (1, true), (2, false), (4, true), (5, false)];
+    for (channels, legal) in ambisonic.into_iter().chain([(227, true), (228, false)]) {
+        shapes.push((with_table(random, AMBISONICS, channels, (5, 3)), legal));
+    }
+    for (channels, legal) in ambisonic.into_iter().chain([(27, true), (28, false)]) {
+        shapes.push((with_matrix(random, channels, (3, 1)), legal));
+    }
     for channels in [0, 1, 2] {
-        shapes.push((with_table(random, 2, channels, (1, 1)), false));
+        shapes.push((with_table(random, 4, channels, (1, 1)), false));
     }
     shapes
 }

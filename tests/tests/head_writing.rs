@@ -2,7 +2,9 @@
 //! place of the channel mapping and each length of the output.
 
 use embulgri_tests::head::{Head, PLACES, UNFIT_FIELDS, WIDTHS};
-use embulgri_tests::head_inputs::{legal_set, with_table, without_table, COUNTS};
+use embulgri_tests::head_inputs::{
+    legal_set, with_matrix, with_table, without_table, AMBISONIC, COUNTS,
+};
 use embulgri_tests::ogg::NO_ROOM;
 use embulgri_tests::random::Random;
 use embulgri_tests::tally::Tally;
@@ -24,7 +26,7 @@ fn write(head: &Head, tally: &mut Tally, legal: bool, case: &str) {
 fn with_field(head: &Head, place: usize, value: u64) -> Head {
     let mut fields = head.fields();
     fields[place] = value;
-    Head::new(fields, head.mapping)
+    head.with_fields(fields)
 }
 
 #[test]
@@ -33,13 +35,17 @@ fn every_family_and_number_of_channels_is_written_as_the_rules_say() {
     let mut tally = Tally::default();
     for family in 0..=255 {
         for channels in 0..=PLACES {
-            let (head, most) = match family {
-                0 => (without_table(&mut random, channels), 2),
-                1 => (with_table(&mut random, 1, channels, (3, 2)), 8),
-                255 => (with_table(&mut random, 255, channels, (3, 2)), PLACES),
-                _ => (with_table(&mut random, family, channels, (3, 2)), 0),
+            let head = match family {
+                0 => without_table(&mut random, channels),
+                3 => with_matrix(&mut random, channels, (3, 2)),
+                _ => with_table(&mut random, family, channels, (3, 2)),
             };
-            let legal = (1..=most).contains(&channels);
+            let legal = match family {
+                0 => (1..=2).contains(&channels),
+                1 => (1..=8).contains(&channels),
+                2 | 3 => AMBISONIC.contains(&channels),
+                _ => family == 255 && channels > 0,
+            };
             write(&head, &mut tally, legal, "family and channels");
         }
     }
@@ -94,12 +100,12 @@ fn every_two_indices_of_family_0_are_written_as_the_rules_say() {
 fn an_index_at_every_place_is_written_below_the_counts_or_255() {
     let mut random = Random::of_run(44);
     let mut tally = Tally::default();
-    for (counts, channels) in COUNTS
-        .into_iter()
-        .zip([1, 2, 3, 8, 9, 100, 253, 254, 255, 255])
-    {
+    let last = [1, 2, 3, 8, 9, 100, 253, 254, 255, 255].map(|channels| (255, channels));
+    let ambisonic = [1, 3, 4, 6, 9, 11, 100, 198, 225, 227].map(|channels| (2, channels));
+    let counts = COUNTS.into_iter().cycle();
+    for (counts, (family, channels)) in counts.zip(last.into_iter().chain(ambisonic)) {
         let decoded = counts.0 + counts.1;
-        let head = with_table(&mut random, 255, channels, counts);
+        let head = with_table(&mut random, family, channels, counts);
         for place in 0..channels {
             for index in [0, decoded - 1, decoded, 254, 255] {
                 let mut head = head.clone();
@@ -117,7 +123,7 @@ fn unused_places_are_zero() {
     let mut tally = Tally::default();
     for head in legal_set(&mut Random::of_run(45)) {
         write(&head, &mut tally, true, "all of them zero");
-        for place in head.channels as usize..PLACES {
+        for place in head.indices()..PLACES {
             for value in [1, 2, 128, 254, 255] {
                 let mut head = head.clone();
                 head.mapping[place] = value;

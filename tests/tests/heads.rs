@@ -1,18 +1,21 @@
-//! Holds the reading of identification headers to RFC 7845 (section 5.1) and the rules in
+//! Holds the reading of identification headers to RFC 7845 (section 5.1), RFC 8486 and the rules in
 //! docs/PROMISES.md, and the writing of known ones.
 
 use embulgri_tests::calls::{check_head, found_head};
 use embulgri_tests::head::{
-    encode, Head, BAD_HEAD, BAD_MAPPING, CHANNELS, FAMILY, PLACES, SHORTEST, VERSION, WIDTHS,
+    encode, Head, BAD_HEAD, BAD_MAPPING, CHANNELS, FAMILY, MATRIX, PLACES, SHORTEST, TABLE,
+    VERSION, WIDTHS,
 };
-use embulgri_tests::head_inputs::{legal_set, with_table, without_table, COUNTS};
+use embulgri_tests::head_inputs::{
+    legal_set, with_matrix, with_table, without_table, AMBISONIC, COUNTS,
+};
 use embulgri_tests::random::Random;
 use embulgri_tests::tally::Tally;
 use embulgri_tests::writing::written;
 
-/// A header of each family that is known, with its fields and its indices. The bytes of the second
-/// one's fields all differ, which shows their order.
-const KNOWN: [(&[u8], [u64; 8], &[u8]); 5] = [
+/// A header of each family that is known, with its fields and its indices, or its matrix. The bytes of
+/// the second one's fields all differ, which shows their order.
+const KNOWN: [(&[u8], [u64; 8], &[u8]); 7] = [
     (
         b"OpusHead\x01\x02\x38\x01\x80\xbb\0\0\0\0\0",
         [1, 2, 312, 48_000, 0, 0, 1, 1],
@@ -29,6 +32,16 @@ const KNOWN: [(&[u8], [u64; 8], &[u8]); 5] = [
         &[0, 4, 1, 2, 3, 5],
     ),
     (
+        b"OpusHead\x01\x04\x38\x01\x80\xbb\0\0\0\0\x02\x03\x01\x03\x02\xff\x00",
+        [1, 4, 312, 48_000, 0, 2, 3, 1],
+        &[3, 2, 255, 0],
+    ),
+    (
+        b"OpusHead\x01\x03\x38\x01\x80\xbb\0\0\0\0\x03\x01\x01\0\x40\x82\x5a\0\0\x7e\xa5\xff\x7f\0\x80",
+        [1, 3, 312, 48_000, 0, 3, 1, 1],
+        &[0, 0x40, 0x82, 0x5a, 0, 0, 0x7e, 0xa5, 0xff, 0x7f, 0, 0x80],
+    ),
+    (
         b"OpusHead\x01\x03\xff\xff\xff\xff\xff\xff\xff\x7f\xff\x80\x7f\xff\xfe\x00",
         [1, 3, 0xffff, 0xffff_ffff, 0x7fff, 255, 128, 127],
         &[255, 254, 0],
@@ -40,10 +53,16 @@ const KNOWN: [(&[u8], [u64; 8], &[u8]); 5] = [
     ),
 ];
 
-fn known_head(fields: [u64; 8], indices: &[u8]) -> Head {
+fn known_head(fields: [u64; 8], table: &[u8]) -> Head {
     let mut mapping = [0; PLACES];
+    let is_matrix = fields[5] == MATRIX;
+    let (indices, matrix) = if is_matrix {
+        (&[][..], table)
+    } else {
+        (table, &[][..])
+    };
     mapping[..indices.len()].copy_from_slice(indices);
-    Head::new(fields, mapping)
+    Head::new(fields, mapping, matrix.to_vec())
 }
 
 /// Reads a header, counts the answer and gives it.
@@ -55,8 +74,8 @@ fn read(packet: &[u8], tally: &mut Tally, case: &str) -> u32 {
 
 #[test]
 fn known_headers_are_read_and_written() {
-    for (bytes, fields, indices) in KNOWN {
-        let head = known_head(fields, indices);
+    for (bytes, fields, table) in KNOWN {
+        let head = known_head(fields, table);
         assert_eq!(found_head(bytes), head);
         assert_eq!(written(&head), bytes);
         assert_eq!(check_head(bytes, "known"), Ok(head));
@@ -82,7 +101,7 @@ fn known_headers_of_other_versions_are_read() {
 
 #[test]
 fn known_wrong_headers_have_the_known_answers() {
-    let known: [(&[u8], u32); 17] = [
+    let known: [(&[u8], u32); 18] = [
         (b"", BAD_HEAD),
         (b"OpusTags\x01\x02\x38\x01\x80\xbb\0\0\0\0\0", BAD_HEAD),
         (b"OpusHead\x10\x02\x38\x01\x80\xbb\0\0\0\0\0", BAD_HEAD),
@@ -96,7 +115,11 @@ fn known_wrong_headers_have_the_known_answers() {
         (b"OpusHead\x02\x03\x38\x01\x80\xbb\0\0\0\0\0\0", BAD_MAPPING),
         (b"OpusHead\x01\x00\0\0\0\0\0\0\0\0\xff\x01\x00", BAD_MAPPING),
         (b"OpusHead\x01\x01\0\0\0\0\0\0\0\0\x01\0\0\xff", BAD_MAPPING),
-        (b"OpusHead\x01\x01\0\0\0\0\0\0\0\0\x02\x01\0\0", BAD_MAPPING),
+        (b"OpusHead\x01\x01\0\0\0\0\0\0\0\0\x04\x01\0\0", BAD_MAPPING),
+        (
+            b"OpusHead\x01\x02\0\0\0\0\0\0\0\0\x02\x02\0\0\x01",
+            BAD_MAPPING,
+        ),
         (
             b"OpusHead\x01\x01\0\0\0\0\0\0\0\0\x01\x01\x02\0",
             BAD_MAPPING,
@@ -123,11 +146,13 @@ fn every_family_and_number_of_channels_is_read_at_the_right_length_only() {
         for channels in 0..=PLACES {
             let head = match family {
                 0 => without_table(&mut random, channels),
+                3 => with_matrix(&mut random, channels, (3, 2)),
                 _ => with_table(&mut random, family, channels, (3, 2)),
             };
             let legal = match family {
                 0 => (1..=2).contains(&channels),
                 1 => (1..=8).contains(&channels),
+                2 | 3 => AMBISONIC.contains(&channels),
                 _ => family == 255 && channels > 0,
             };
             let mut bytes = encode(&head);
@@ -149,7 +174,13 @@ fn every_family_and_number_of_channels_is_read_at_the_right_length_only() {
 #[test]
 fn every_stream_count_and_coupled_count_is_read_as_the_rules_say() {
     let mut tally = Tally::default();
-    for (family, indices) in [(1, &[0][..]), (1, &[255]), (255, &[255, 0, 255])] {
+    let families = [
+        (1, &[0][..]),
+        (1, &[255]),
+        (2, &[255]),
+        (255, &[255, 0, 255]),
+    ];
+    for (family, indices) in families {
         for streams in 0..=255 {
             for coupled in 0..=255 {
                 let fields = [1, indices.len() as u64, 0, 0, 0, family, streams, coupled];
@@ -167,10 +198,11 @@ fn every_stream_count_and_coupled_count_is_read_as_the_rules_say() {
 fn an_index_at_every_place_is_below_the_counts_or_255() {
     let mut random = Random::of_run(32);
     let mut tally = Tally::default();
-    let channels = [(1, 1), (1, 2), (1, 8), (255, 1), (255, 9), (255, 255)];
+    let first = [(1, 1), (1, 2), (1, 8), (2, 4), (2, 11)];
+    let channels = [&first[..], &[(255, 1), (255, 9), (255, 255)]].concat();
     for counts in COUNTS {
         let decoded = counts.0 + counts.1;
-        for (family, channels) in channels {
+        for &(family, channels) in &channels {
             let head = with_table(&mut random, family, channels, counts);
             for place in 0..channels {
                 for index in [0, decoded - 1, decoded, decoded + 1, 254, 255] {
@@ -188,7 +220,7 @@ fn an_index_at_every_place_is_below_the_counts_or_255() {
 
 #[test]
 fn fields_are_read_at_the_ends_of_their_widths() {
-    for (bytes, fields, indices) in KNOWN {
+    for (bytes, fields, table) in KNOWN {
         // Pre-skip, input rate and output gain, each with its first byte.
         for (place, at) in [(2, 10), (3, 12), (4, 16)] {
             let width = WIDTHS[place];
@@ -198,7 +230,7 @@ fn fields_are_read_at_the_ends_of_their_widths() {
                 let mut bytes = bytes.to_vec();
                 let length = width as usize / 8;
                 bytes[at..][..length].copy_from_slice(&value.to_le_bytes()[..length]);
-                let head = known_head(fields, indices);
+                let head = known_head(fields, table);
                 assert_eq!(check_head(&bytes, "a field"), Ok(head));
             }
         }
@@ -244,6 +276,8 @@ fn headers_with_any_one_byte_changed_are_read_as_the_rules_say() {
                     CHANNELS if head.family != 0 => assert_eq!(answer, BAD_HEAD),
                     CHANNELS | FAMILY => (),
                     10..FAMILY => assert_eq!(answer, 0, "byte {place}"),
+                    SHORTEST..TABLE if head.family == MATRIX => assert_eq!(answer, BAD_HEAD),
+                    _ if head.family == MATRIX => assert_eq!(answer, 0, "byte {place}"),
                     _ => assert_ne!(answer, BAD_HEAD, "byte {place}"),
                 }
             }

@@ -25,8 +25,9 @@ use Rattle.page_writer.specs.Writing.{pageSize, writeTold}
 use Rattle.page_writer.specs.Statements.{Fit, ReadsAs}
 use Rattle.page_writer.proofs.RoundTrip.{reads-back}
 use Rattle.head_reader.specs.Fields.{streamsOf, coupledOf, indicesOf, places, headOf as fieldsOf}
-use Rattle.head_fields.specs.Right.{rightLength, allowedChannels, rightIndices, rightStreams, rightMapping}
-use Rattle.head_reader.specs.Reading.{isHead}
+use Rattle.head_families.specs.Families.{allowedChannels}
+use Rattle.head_fields.specs.Right.{rightLength, rightIndices, rightStreams, rightMapping}
+use Rattle.head_reader.specs.Reading.{lengthOf, isHead}
 use Rattle.utf8.specs.Characters.{utf8From, utf8}
 use Rattle.tags_layout.specs.Layout.{fitsAt, allFit, textsFrom, placeAfter, isLaidOut, tagsOf}
 use Rattle.tags_rules.specs.Right.{allRight, occurrences, rightComments}
@@ -190,7 +191,7 @@ pub record Steps : Type 0 where
   pub dropped : Step q1 (written holePage) s5 []
 
 pub steps : Steps
-unfolding firstOf expecting seen join whole rest cutFrom unfinishedFrom wrongFlags continued last longFrom anyLong endedFrom afterFirst pageShape shapeFrom granuleWrong readings begins isTags isLaidOut fitsAt allFit textsFrom placeAfter tagsOf rightTags rightComments allRight occurrences utf8 utf8From packetChecks audioPackets timeChecks measuresOf nextOn stampsOn startOn from stamps samplesOf total measuredOf parse shapeOf allAre frameSamples configSamples coded codedTimes countedShape paddingFrom isHead fieldsOf number value streamsOf coupledOf indicesOf places rightLength rightMapping allowedChannels rightStreams rightIndices
+unfolding firstOf expecting seen join whole rest cutFrom unfinishedFrom wrongFlags continued last longFrom anyLong endedFrom afterFirst pageShape shapeFrom granuleWrong readings begins isTags isLaidOut fitsAt allFit textsFrom placeAfter tagsOf rightTags rightComments allRight occurrences utf8 utf8From packetChecks audioPackets timeChecks measuresOf nextOn stampsOn startOn from stamps samplesOf total measuredOf parse shapeOf allAre frameSamples configSamples coded codedTimes countedShape paddingFrom isHead lengthOf fieldsOf number value streamsOf coupledOf indicesOf places rightLength rightMapping allowedChannels rightStreams rightIndices
 steps = record {
   head = step fresh s1 [] (written headPage) headPage (pages .head) refl refl refl refl;
   tags = step s1 s2 [] (written tagsPage) tagsPage (pages .tags) refl refl refl refl;

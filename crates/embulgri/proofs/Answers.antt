@@ -97,25 +97,26 @@ module _ (p : Bytes) (numbers places : List ℕ) (r : HeadRead) (is : HeadIs p r
       let e = sym (is .told) ∙ ap (λ (x : Verdict). toldBy x (r .head)) v in
       rw m (record { answer = rw e; numbers = rw e; places = rw e })
 
-module _ (f m out : Bytes) (old : ℕ) where
-  pub numbers-unfit : fitting f ≡ false → HeadLaid f m (numberOf UnfitFields) out out old old
+module _ (f places matrix out : Bytes) (old : ℕ) where
+  pub numbers-unfit : fitting f ≡ false → HeadLaid f places matrix (numberOf UnfitFields) out out old old
   unfolding headTold headOut
   numbers-unfit e = record { answer = rw e; output = rw e; written = rw e }
 
-  module _ {h : Head} (from : h ≡ headFrom f m) (fit : fitting f ≡ true) {r : HeadWritten} {end : Bytes} (is : WroteHead h out r end) where
+  module _ {h : Head} (from : h ≡ headFrom f places) (fit : fitting f ≡ true)
+      {r : HeadWritten} {end : Bytes} (is : WroteHead h matrix out r end) where
     -- what holds of the header holds of its numbers
-    told : toldHead r ≡ headTold f m out
+    told : toldHead r ≡ headTold f places matrix out
     unfolding headTold
     told = rw (fit, ← from) (is .told)
 
-    output : end ≡ headOut f m out
+    output : end ≡ headOut f places matrix out
     unfolding headOut
     output = rw (fit, ← from) (is .output)
 
-    pub head-written : {n : ℕ} → r ≡ HeadBytes n → HeadLaid f m 0 out end old n
+    pub head-written : {n : ℕ} → r ≡ HeadBytes n → HeadLaid f places matrix 0 out end old n
     head-written e = wrote told output (ap toldHead e)
 
-    pub head-unwritten : {why : Refusal} {n : ℕ} → r ≡ HeadRefused why → n ≡ numberOf why → HeadLaid f m n out end old old
+    pub head-unwritten : {why : Refusal} {n : ℕ} → r ≡ HeadRefused why → n ≡ numberOf why → HeadLaid f places matrix n out end old old
     head-unwritten e number = unwritten told output (ap toldHead e) number
 
 module _ (vendor text : Bytes) (ns : List ℕ) (out : Bytes) (old : ℕ) where

@@ -21,7 +21,8 @@ use Rattle.page_writer.specs.Writing.{writeTold, writeOut}
 use Rattle.packet_reader.specs.declared.Contents.{Contents}
 use Rattle.packet_reader.specs.Streams.{readPacket}
 use Rattle.head_fields.specs.declared.Head.{Head}
-use Rattle.head_numbers.specs.Numbers.{headNumbers, fitting, headFrom}
+use Rattle.head_numbers.specs.Numbers.{headNumbers, fitting, headFrom, matrixNumbers}
+use Rattle.head_matrix.specs.Matrix.{readSize, readEntry}
 use Rattle.head_reader.specs.Reading.{readHead}
 use Rattle.head_writer.specs.Writing as headWriting
 use Rattle.tags_layout.specs.declared.Part.{Part}
@@ -77,14 +78,24 @@ pub record HeadIn (p : Bytes) (number : ℕ) (oldNumbers endNumbers oldPlaces en
   pub places : endPlaces ≡ stored (retold (λ (h : Head). h .mapping) (readHead p)) oldPlaces
 
 -- writing: a number that its field's width cannot hold is 23
-unfoldable pub headTold : List ℕ → Bytes → Bytes → Told ℕ
-headTold f m out = pick (fitting f) (headWriting.writeTold (headFrom f m) out) (refuses (numberOf UnfitFields))
+unfoldable pub headTold : List ℕ → Bytes → Bytes → Bytes → Told ℕ
+headTold f places matrix out =
+    pick (fitting f) (headWriting.writeTold (headFrom f places) matrix out) (refuses (numberOf UnfitFields))
 
-unfoldable pub headOut : List ℕ → Bytes → Bytes → Bytes
-headOut f m out = pick (fitting f) (headWriting.writeOut (headFrom f m) out) out
+unfoldable pub headOut : List ℕ → Bytes → Bytes → Bytes → Bytes
+headOut f places matrix out = pick (fitting f) (headWriting.writeOut (headFrom f places) matrix out) out
 
-abbrev pub HeadLaid : List ℕ → Bytes → ℕ → Bytes → Bytes → ℕ → ℕ → Type 0
-HeadLaid f m number out end old count = Wrote (headTold f m out) (headOut f m out) number end old count
+abbrev pub HeadLaid : List ℕ → Bytes → Bytes → ℕ → Bytes → Bytes → ℕ → ℕ → Type 0
+HeadLaid f places matrix number out end old count =
+    Wrote (headTold f places matrix out) (headOut f places matrix out) number end old count
+
+-- where the matrix lies
+abbrev pub MatrixIn : Bytes → ℕ → List ℕ → List ℕ → Type 0
+MatrixIn p number old end = Answered (retold matrixNumbers (readSize p)) number old end
+
+-- an entry of the matrix in 16 bits
+abbrev pub EntryIn : Bytes → ℕ → ℕ → ℕ → ℕ → Type 0
+EntryIn p i number old end = Answered (retold (ofZ w16) (readEntry p i)) number old end
 
 -- ---- comment headers
 

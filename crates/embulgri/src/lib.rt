@@ -5,10 +5,8 @@ ghost use mathlib.Core.Path.{_≡_};
 ghost use Rattle.page_crc.specs.Crc.{crc};
 ghost use Rattle.tags_layout.specs.Finding.{toldPart};
 ghost use Rattle.octets.specs.Pick.{pick};
-ghost use Rattle.embulgri.specs.Answers.{PageIn, PageOut, packetNumbers, PacketIn, HeadIn, HeadLaid, TagsIn, PartIn, VendorIn};
+ghost use Rattle.embulgri.specs.Answers.{PageIn, PageOut, packetNumbers, PacketIn, TagsIn, PartIn, VendorIn};
 ghost use Rattle.embulgri.specs.Answers.{CommentIn, GainIn, TagsOut, ClockAfter};
-use head_reader::Verdict;
-use head_writer::HeadWritten;
 use old_clock::Added;
 use old_clock::Clock;
 use packet_reader::Contents;
@@ -23,6 +21,7 @@ use tags_reader::TagsRead;
 use tags_writer::TagsWritten;
 
 pub mod feeding;
+pub mod heads;
 
 // Returns the checksum of the bytes as they are (RULES.md, 3; embulgri.h). It stores nothing and refuses nothing.
 // Example: of the one byte 0x01 it is 0x04c11db7.
@@ -130,62 +129,6 @@ pub extern "C" fn embulgri_packet_read(packet: &[u8], streams: u64, out: &mut [u
             0
         }
         PacketRead::Refused(why) => refusal::number(why) as u32,
-    }
-}
-
-// Reads one identification header. Into `fields`: its eight numbers. Into `mapping`: its 255 places. Returns 12, 13 or 0
-// (RULES.md, 4; embulgri.h).
-// Example: 2 channels, pre-skip 312, rate 48000, gain 0 and family 0 store 1, 2, 312, 48000, 0, 0, 1, 1 and the places 0, 1
-// and zeros.
-#[no_mangle]
-pub extern "C" fn embulgri_head_read(
-    packet: &[u8],
-    fields: &mut [u64; 8],
-    mapping: &mut [u8; 255],
-) -> u32
-    ensures { λ r. ⌜
-        HeadIn (now (packet .entry)) r
-        (now (fields .entry)) (now (fields .exit)) (now (mapping .entry)) (now (mapping .exit)) ⌝ }
-{
-    let read = head_reader::read_head(packet);
-    let verdict = read.verdict;
-    let head = read.head;
-    match verdict {
-        Verdict::Right => {
-            *fields = head_numbers::numbers_of(head);
-            let places = head.mapping;
-            *mapping = places;
-            0
-        }
-        Verdict::Refused(why) => refusal::number(why) as u32,
-    }
-}
-
-// Writes one identification header to the start of `out`. Into `written`: how many bytes it has. Returns 23, 22 or 0
-// (RULES.md, 4; embulgri.h).
-// Example: the numbers 1, 2, 312, 48000, 0, 0, 1, 1 with the places 0, 1 and zeros, and an `out` of 19 bytes, store 19.
-#[no_mangle]
-pub extern "C" fn embulgri_head_write(
-    fields: &[u64; 8],
-    mapping: &[u8; 255],
-    out: &mut [u8],
-    written: &mut u64,
-) -> u32
-    ensures { λ r. ⌜
-        HeadLaid (now (fields .entry)) (now (mapping .entry)) r
-        (now (out .entry)) (now (out .exit)) (now (written .entry)) (now (written .exit)) ⌝ }
-{
-    if !head_numbers::numbers_fit(fields) {
-        return refusal::number(Refusal::UnfitFields) as u32;
-    }
-    let head = head_numbers::head_of(fields, mapping);
-    let wrote = head_writer::write_head(head, out);
-    match wrote {
-        HeadWritten::Bytes(n) => {
-            *written = n as u64;
-            0
-        }
-        HeadWritten::Refused(why) => refusal::number(why) as u32,
     }
 }
 

@@ -11,21 +11,10 @@ use lib.Seq.{drop-cons, take-all}
 use Rattle.octets.specs.Octets.{Bytes, begins}
 use Rattle.octets.proofs.Parts.{take-min}
 use Rattle.head_fields.specs.declared.Head.{Head}
-use Rattle.head_fields.specs.Right.{plainIndices}
-use Rattle.head_fields.specs.Right.{mostChannels, allowedChannels, rightIndices, allZero, rightStreams, rightPlain, rightMapping, rightFields}
-
--- how many channels a family allows
-pub most-other : {family : ℕ} → (family ≡ 0 → ⊥) → (family ≡ 1 → ⊥) → (family ≡ 255 → ⊥) → mostChannels family ≡ 0
-most-other {family} a b c = rw (ne-eqb family 0 a, ne-eqb family 1 b, ne-eqb family 255 c)
-
-module _ (family channels : ℕ) where
-  pub no-channel : channels < 1 → allowedChannels family channels ≡ false
-  unfolding allowedChannels
-  no-channel h = rw (lt-leb 1 channels h)
-
-  pub most-decides : {most : ℕ} → 1 ≤ channels → mostChannels family ≡ most → allowedChannels family channels ≡ leb channels most
-  unfolding allowedChannels
-  most-decides h e = rw (le-leb 1 channels h, e)
+use Rattle.head_families.specs.Families.{allowedChannels, hasCounts}
+use Rattle.head_fields.specs.Layout.{fitsPacket, headSize, usedCount}
+use Rattle.head_fields.specs.Right.{plainIndices, unusedPlaces}
+use Rattle.head_fields.specs.Right.{rightIndices, allZero, rightStreams, rightPlain, rightMapping, rightFields}
 
 -- one index
 module _ (n : ℕ) (s : Bytes) (i : ℕ) (in-s : i < length s) where
@@ -83,31 +72,34 @@ module _ (h : Head) where
   wrong-streams a b = rw (a, b)
 
   pub indices-decide : {n m : ℕ} → allowedChannels (h .family) (h .channels) ≡ true → rightStreams h ≡ true → n ≡ h .coupled + h .streams
-      → m ≡ h .channels → rightMapping h ≡ rightIndices n (take m (h .mapping))
+      → m ≡ usedCount h → rightMapping h ≡ rightIndices n (take m (h .mapping))
   unfolding rightMapping
   indices-decide a b e d = rw (a, b, e, d)
 
   -- family 0
-  pub with-table : (h .family ≡ 0 → ⊥) → rightPlain h ≡ true
+  pub with-counts : hasCounts (h .family) ≡ true → rightPlain h ≡ true
   unfolding rightPlain
-  with-table f = rw (ne-eqb (h .family) 0 f)
+  with-counts f = rw f
 
-  pub other-streams : h .family ≡ 0 → (h .streams ≡ 1 → ⊥) → rightPlain h ≡ false
-  unfolding rightPlain
-  other-streams f s = rw (eq-eqb (h .family) 0 f, ne-eqb (h .streams) 1 s)
+  module _ (f : hasCounts (h .family) ≡ false) where
+    pub other-streams : (h .streams ≡ 1 → ⊥) → rightPlain h ≡ false
+    unfolding rightPlain
+    other-streams s = rw (f, ne-eqb (h .streams) 1 s)
 
-  pub coupled-decides : {n : ℕ} → h .family ≡ 0 → h .streams ≡ 1 → h .channels ≡ 0 → n ≡ h .coupled → rightPlain h ≡ eqb n 0
-  unfolding rightPlain begins
-  coupled-decides f s c e = rw (e, eq-eqb (h .family) 0 f, eq-eqb (h .streams) 1 s, c) (and-true (eqb (h .coupled) 0))
+    module _ (s : h .streams ≡ 1) where
+      pub coupled-decides : {n : ℕ} → h .channels ≡ 0 → n ≡ h .coupled → rightPlain h ≡ eqb n 0
+      unfolding rightPlain begins
+      coupled-decides c e = rw (e, f, eq-eqb (h .streams) 1 s, c) (and-true (eqb (h .coupled) 0))
 
-  pub other-coupled : h .family ≡ 0 → h .streams ≡ 1 → (h .coupled ≡ h .channels - 1 → ⊥) → rightPlain h ≡ false
-  unfolding rightPlain
-  other-coupled f s c = rw (eq-eqb (h .family) 0 f, eq-eqb (h .streams) 1 s, ne-eqb (h .coupled) (h .channels - 1) c)
+      pub other-coupled : (h .coupled ≡ h .channels - 1 → ⊥) → rightPlain h ≡ false
+      unfolding rightPlain
+      other-coupled c = rw (f, eq-eqb (h .streams) 1 s, ne-eqb (h .coupled) (h .channels - 1) c)
 
-  pub start-decides : {n : ℕ} → h .family ≡ 0 → h .streams ≡ 1 → h .coupled ≡ h .channels - 1 → n ≡ min (h .channels) 2
-      → rightPlain h ≡ begins (take n plainIndices) (h .mapping)
-  unfolding rightPlain
-  start-decides f s c e = rw (e, take-min (h .channels) plainIndices, eq-eqb (h .family) 0 f, eq-eqb (h .streams) 1 s, eq-eqb (h .coupled) (h .channels - 1) c)
+      pub start-decides : {n : ℕ} → h .coupled ≡ h .channels - 1 → n ≡ min (h .channels) 2
+          → rightPlain h ≡ begins (take n plainIndices) (h .mapping)
+      unfolding rightPlain
+      start-decides c e =
+          rw (e, take-min (h .channels) plainIndices, f, eq-eqb (h .streams) 1 s, eq-eqb (h .coupled) (h .channels - 1) c)
 
   -- all fields but the version
   pub wrong-mapping : rightMapping h ≡ false → rightFields h ≡ false
@@ -118,7 +110,15 @@ module _ (h : Head) where
   unfolding rightFields
   wrong-plain m p = rw (m, p)
 
-  pub unused-decide : {n : ℕ} → rightMapping h ≡ true → rightPlain h ≡ true → n ≡ h .channels → length (h .mapping) ≡ 255
-      → rightFields h ≡ allZero (take (255 - n) (drop n (h .mapping)))
-  unfolding rightFields
-  unused-decide m p e l = rw (e, last-part (h .mapping) (h .channels) 255 l, m, p)
+  -- n is how many places are used
+  module _ {n : ℕ} (m : rightMapping h ≡ true) (p : rightPlain h ≡ true) (e : n ≡ usedCount h) (l : length (h .mapping) ≡ 255) where
+    rest : take (255 - n) (drop n (h .mapping)) ≡ unusedPlaces h
+    rest = rw e (last-part (h .mapping) (usedCount h) 255 l)
+
+    pub wrong-unused : allZero (take (255 - n) (drop n (h .mapping))) ≡ false → rightFields h ≡ false
+    unfolding rightFields
+    wrong-unused z = rw (m, p, rw rest at z)
+
+    pub size-decides : {k : ℕ} → allZero (take (255 - n) (drop n (h .mapping))) ≡ true → k ≡ headSize h → rightFields h ≡ fitsPacket k
+    unfolding rightFields
+    size-decides z q = rw (m, p, rw rest at z, q)

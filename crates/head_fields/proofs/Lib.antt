@@ -1,1 +1,1 @@
-mod Checks
+pub mod Checks

@@ -1,3 +1,3 @@
-pub mod Right
 pub mod Layout
+pub mod Right
 pub mod Widths

@@ -1,22 +1,19 @@
--- When the fields of an identification header are right (RFC 7845, 5.1 and 5.1.1; RULES.md, refusals 12, 13 and 23). The
--- reader, the writer and opening part way share this, but for the versions that they take. Assumes nothing.
+-- When the fields of an identification header are right (RFC 7845, 5.1 and 5.1.1; RFC 8486, 3; RULES.md, refusals 12, 13 and
+-- 23). The reader, the writer and opening part way share this, but for the versions that they take. Assumes nothing.
 use Prim.Native.Nat.{ℕ, _+_, _-_}
-use mathlib.Core.Bool.{Bool, true, false, _&&_, _||_}
+use mathlib.Core.Bool.{Bool, true, _&&_, _||_}
 use mathlib.Core.List.{[], _∷_}
 use lib.Dec.{ltb, leb, eqb}
 use lib.ListN.{take, drop}
 use Rattle.octets.specs.Pick.{pick}
 use Rattle.octets.specs.Octets.{Bytes, begins}
 use Rattle.head_fields.specs.declared.Head.{Head}
+use Rattle.head_families.specs.Families.{allowedChannels, hasCounts}
+use Rattle.head_fields.specs.Layout.{fitsPacket, headSize, usedCount}
 
 -- the mapping of family 0: one channel, or two of one coupled stream
 abbrev pub plainIndices : Bytes
 plainIndices = 0 ∷ 1 ∷ []
-
--- the table after the family, which family 0 does not have: the number of streams, of coupled ones, and an index for each
--- channel
-abbrev pub hasTable : ℕ → Bool
-hasTable family = pick (eqb family 0) false true
 
 -- which versions are read: those whose upper four bits are zero
 abbrev pub readableVersion : ℕ → Bool
@@ -37,23 +34,12 @@ mayExtend v = leb 2 v
 unfoldable pub rightLength : ℕ → ℕ → ℕ → Bool
 rightLength version fields n = pick (mayExtend version) (leb fields n) (eqb n fields)
 
--- how long the table is
-abbrev pub tableLength : ℕ → ℕ → ℕ
-tableLength family channels = pick (hasTable family) (2 + channels) 0
-
--- how many channels a family allows: families 0, 1 and 255 are known
-abbrev pub mostChannels : ℕ → ℕ
-mostChannels family = pick (eqb family 0) 2 (pick (eqb family 1) 8 (pick (eqb family 255) 255 0))
-
-unfoldable pub allowedChannels : ℕ → ℕ → Bool
-allowedChannels family channels = leb 1 channels && leb channels (mostChannels family)
-
--- which places of the mapping are used: one for each channel
+-- which places of the mapping are used: one for each index
 abbrev pub usedPlaces : Head → Bytes
-usedPlaces h = take (h .channels) (h .mapping)
+usedPlaces h = take (usedCount h) (h .mapping)
 
 abbrev pub unusedPlaces : Head → Bytes
-unusedPlaces h = drop (h .channels) (h .mapping)
+unusedPlaces h = drop (usedCount h) (h .mapping)
 
 -- a stream's channel, or 255 for silence
 abbrev pub rightIndex : ℕ → ℕ → Bool
@@ -70,10 +56,10 @@ allZero (i ∷ s) = eqb i 0 && allZero s
 unfoldable pub rightStreams : Head → Bool
 rightStreams h = leb 1 (h .streams) && (leb (h .coupled) (h .streams) && leb (h .coupled + h .streams) 255)
 
--- family 0 has no table, so it has one stream, and two channels are coupled
+-- family 0 has no counts, so it has one stream, and two channels are coupled
 unfoldable pub rightPlain : Head → Bool
 rightPlain h =
-    pick (hasTable (h .family)) true
+    pick (hasCounts (h .family)) true
     (eqb (h .streams) 1 && (eqb (h .coupled) (h .channels - 1) && begins (take (h .channels) plainIndices) (h .mapping)))
 
 -- the channel mapping is right (13)
@@ -84,7 +70,7 @@ rightMapping h =
 
 -- all but the version is right
 unfoldable pub rightFields : Head → Bool
-rightFields h = rightMapping h && (rightPlain h && allZero (unusedPlaces h))
+rightFields h = rightMapping h && (rightPlain h && (allZero (unusedPlaces h) && fitsPacket (headSize h)))
 
 -- fields that a reading could have given (23 of opening part way)
 unfoldable pub rightHead : Head → Bool

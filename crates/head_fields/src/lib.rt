@@ -1,9 +1,10 @@
-// The fields of an identification header (RFC 7845, 5.1), and when they are right.
+// The fields of an identification header (RFC 7845, 5.1; RFC 8486, 3), and when they are right.
 ghost use mathlib.Core.Path.{_≡_};
-ghost use Rattle.head_fields.specs.Right.{allowedChannels, rightStreams, rightIndices, allZero};
+ghost use Rattle.head_fields.specs.Right.{rightStreams, rightIndices, allZero};
 ghost use Rattle.head_fields.specs.Right.{readableVersion, writableVersion, rightLength};
 ghost use Rattle.head_fields.specs.Right.{rightPlain, rightMapping, rightFields, rightHead, writableHead};
 ghost use Rattle.head_fields.specs.Layout.{headLength};
+use limits::PACKET_MAX;
 
 pub mod place;
 
@@ -13,7 +14,8 @@ pub const SIGNATURE: [u8; 8] = *b"OpusHead";
 // How many bytes come before the table.
 pub const START_LENGTH: usize = 19;
 
-// The fields of a header. Of the mapping's 255 places one for each channel is used, and the others are zero.
+// The fields of a header. Of the mapping's 255 places one for each index is used, and the others are zero. Family 3 has no
+// indices. Its matrix is not in the record.
 pub struct Head {
     pub version: u8,
     pub channels: u8,
@@ -51,21 +53,6 @@ pub fn right_length(version: u8, fields: usize, n: usize) -> bool
         return n >= fields;
     }
     n == fields
-}
-
-// How many channels a family allows: families 0, 1 and 255 are known.
-fn allowed_channels(family: u8, channels: u8) -> bool
-    ensures { λ r. ⌜ r ≡ allowedChannels family channels ⌝ }
-{
-    if channels < 1 {
-        return false;
-    }
-    match family {
-        0 => channels <= 2,
-        1 => channels <= 8,
-        255 => true,
-        _ => false,
-    }
 }
 
 fn right_streams(h: Head) -> bool
@@ -118,23 +105,23 @@ fn all_zero(s: &[u8]) -> bool
 pub fn right_mapping(h: Head) -> bool
     ensures { λ r. ⌜ r ≡ rightMapping h ⌝ }
 {
-    if !allowed_channels(h.family, h.channels) {
+    if !head_families::allowed_channels(h.family, h.channels) {
         return false;
     }
     if !right_streams(h) {
         return false;
     }
     let mapping = h.mapping;
-    let channels = octets::wide(h.channels);
+    let used = head_families::index_count(h.family, h.channels);
     let n = octets::wide(h.coupled) + octets::wide(h.streams);
-    right_indices(n, &mapping[..channels])
+    right_indices(n, &mapping[..used])
 }
 
-// Family 0 has no table: one stream, and two channels are coupled.
+// Family 0 has no counts: one stream, and two channels are coupled.
 fn right_plain(h: Head) -> bool
     ensures { λ r. ⌜ r ≡ rightPlain h ⌝ }
 {
-    if h.family != 0 {
+    if head_families::has_counts(h.family) {
         return true;
     }
     let channels = octets::wide(h.channels);
@@ -154,7 +141,8 @@ fn right_plain(h: Head) -> bool
     octets::begins_with(&mapping, &plain[..n])
 }
 
-// Whether all but the version is right: the channel mapping, the numbers of family 0, and zeros past the channels.
+// Whether all but the version is right: the channel mapping, the numbers of family 0, zeros past the indices, and a length that
+// a packet may have.
 fn right_fields(h: Head) -> bool
     ensures { λ r. ⌜ r ≡ rightFields h ⌝ }
 {
@@ -165,12 +153,16 @@ fn right_fields(h: Head) -> bool
         return false;
     }
     let mapping = h.mapping;
-    let channels = octets::wide(h.channels);
-    all_zero(&mapping[channels..])
+    let used = head_families::index_count(h.family, h.channels);
+    if !all_zero(&mapping[used..]) {
+        return false;
+    }
+    head_length(h.family, h.streams, h.coupled, h.channels) <= PACKET_MAX
 }
 
 // Whether a reading could have given these fields (RULES.md, 4): the version is one that is read, the channel mapping is right,
-// family 0 has its own numbers, and each place past the channels is 0. Where they are not such, opening part way refuses by 23.
+// family 0 has its own numbers, each place past the indices is 0, and the fields take at most 61,440 bytes. Where they are not
+// such, opening part way refuses by 23.
 // Example: version 2, family 0, 2 channels, 1 stream, 1 coupled and the places 0, 1 and zeros are right. With 0 coupled they
 // are not.
 pub fn right_head(h: Head) -> bool
@@ -193,13 +185,15 @@ pub fn writable_head(h: Head) -> bool
     right_fields(h)
 }
 
-// How long the fields of a header are in bytes (RULES.md, 4): the table has two counts and an index for each channel, and
-// family 0 has none. It refuses nothing. Example: `head_length(0, 2)` is 19, and `head_length(1, 6)` is 27.
-pub fn head_length(family: u8, channels: u8) -> usize
-    ensures { λ r. ⌜ r ≡ headLength family channels ⌝ }
+// How long the fields of a header are in bytes (RULES.md, 4): after the family come two counts, and the indices or the matrix.
+// Family 0 has none of these. It refuses nothing.
+// Example: `head_length(0, 1, 1, 2)` is 19, `head_length(1, 4, 2, 6)` is 27, and `head_length(3, 2, 2, 4)` is 53.
+pub fn head_length(family: u8, streams: u8, coupled: u8, channels: u8) -> usize
+    ensures { λ r. ⌜ r ≡ headLength family streams coupled channels ⌝ }
 {
-    if family == 0 {
+    if !head_families::has_counts(family) {
         return START_LENGTH;
     }
-    place::INDICES + octets::wide(channels)
+    let indices = head_families::index_count(family, channels);
+    place::INDICES + (indices + head_families::matrix_length(family, streams, coupled, channels))
 }

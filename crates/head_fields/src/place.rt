@@ -1,4 +1,4 @@
-// The places of the fields in an identification header (RFC 7845, 5.1).
+// The places of the fields in an identification header (RFC 7845, 5.1; RFC 8486, 3).
 
 pub const VERSION: usize = 8;
 
@@ -12,9 +12,11 @@ pub const GAIN: usize = 16;
 
 pub const FAMILY: usize = 18;
 
-// The table, which family 0 does not have: two counts, and an index for each channel.
+// The table, which family 0 does not have: two counts, and an index for each channel or the matrix of family 3.
 pub const STREAMS: usize = 19;
 
 pub const COUPLED: usize = 20;
 
 pub const INDICES: usize = 21;
+
+pub const MATRIX: usize = 21;

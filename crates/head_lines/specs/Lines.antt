@@ -55,3 +55,7 @@ pub record MappingLaid (d s : Bytes) (r : ℕ) (out : Bytes) : Type 0 where
 
 unfoldable pub mappingLine : Bytes → Bytes
 mappingLine s = mappingIs ++ mappingEnd s
+
+-- an entry of the matrix, after a space
+unfoldable pub entryText : ℤ → Bytes
+entryText x = space ++ signedDecimal x

@@ -1,5 +1,6 @@
-// The lines that show an identification header. Each public function puts one whole line into a lent buffer from
-// place `at` on, and answers the place after it. Where the line does not fit, it puts nothing and answers `at`.
+// The lines that show an identification header. Each public function puts one whole line, but for `put_entry`, which puts a
+// part of one, into a lent buffer from place `at` on, and answers the place after it. Where that does not fit, it puts nothing
+// and answers `at`.
 ghost use mathlib.Core.List.{_++_};
 ghost use Prim.Native.Nat.{_+_, _≤_};
 ghost use lib.ListN.{length};
@@ -8,7 +9,7 @@ ghost use Rattle.text_put.specs.Writing.{Put, Laid};
 ghost use Rattle.text_decimal.specs.Decimal.{decimal};
 ghost use Rattle.head_fields.specs.Right.{usedPlaces};
 ghost use Rattle.head_lines.specs.Lines.{numberLine, gainEnd, gainEndMost, gainLine};
-ghost use Rattle.head_lines.specs.Lines.{spaced, MappingRoom, MappingLaid, mappingLine};
+ghost use Rattle.head_lines.specs.Lines.{spaced, MappingRoom, MappingLaid, mappingLine, entryText};
 use head_fields::Head;
 
 // The most bytes that end the line of a number.
@@ -19,6 +20,9 @@ const GAIN_END_MAX: usize = 56;
 
 // The most bytes that end the line of a mapping.
 const MAPPING_END_MAX: usize = 1021;
+
+// The most bytes of a signed number.
+const SIGNED_MAX: usize = 6;
 
 // The line of a number: its name, the number in decimal and a line feed (RULES.md, 13). Where it does not fit, nothing is put.
 // Example: `put_number(out, 0, b"rate ", 48000)` puts "rate 48000" and a line feed, and answers 11.
@@ -88,9 +92,17 @@ pub fn put_mapping(out: &mut [u8], at: usize, head: Head) -> usize
 {
     let mut end = [0u8; MAPPING_END_MAX];
     let mapping = head.mapping;
-    let n = lay_mapping(
-        &mut end,
-        octets::part_of(&mapping, 0, octets::wide(head.channels)),
-    );
+    let used = head_families::index_count(head.family, head.channels);
+    let n = lay_mapping(&mut end, octets::part_of(&mapping, 0, used));
     text_put::put_both(out, at, b"mapping", octets::part_of(&end, 0, n))
+}
+
+// An entry of the matrix: a space and the entry as a signed number (RULES.md, 13). Where they do not fit, nothing is put.
+// Example: `put_entry(out, 0, -1)` puts " -1", and answers 3.
+pub fn put_entry(out: &mut [u8], at: usize, x: i16) -> usize
+    ensures { λ r. ⌜ Put (now (out .entry)) at (entryText x) r (now (out .exit)) ⌝ }
+{
+    let mut number = [0u8; SIGNED_MAX];
+    let n = text_gain::put_signed(&mut number, 0, x);
+    text_put::put_both(out, at, b" ", octets::part_of(&number, 0, n))
 }

@@ -3,12 +3,14 @@
 use Prim.Native.Nat.{ℕ, _%_}
 use mathlib.Core.Bool.{Bool, true, _&&_}
 use mathlib.Core.List.{List, [], _∷_}
-use lib.Dec.{ltb}
+use lib.Dec.{ltb, eqb}
 use lib.ListN.{getD, drop}
 use mir.Syntax.{w16}
 use mir.Val.{toZ, ofZ}
 use Rattle.octets.specs.Octets.{Bytes}
+use Rattle.octets.specs.Pick.{pick}
 use Rattle.head_fields.specs.declared.Head.{Head}
+use Rattle.head_fields.specs.Layout.{matrixPlace}
 
 -- version, channels, pre-skip, input rate, gain in 16 bits, family, streams, coupled
 abbrev pub headNumbers : Head → List ℕ
@@ -43,3 +45,7 @@ headFrom f m = record {
   coupled = fieldAt f 7;
   mapping = m;
 }
+
+-- where a matrix of n bytes lies, and its length; two zeros where there is none
+abbrev pub matrixNumbers : ℕ → List ℕ
+matrixNumbers n = pick (eqb n 0) (0 ∷ 0 ∷ []) (matrixPlace ∷ n ∷ [])

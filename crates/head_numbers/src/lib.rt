@@ -1,7 +1,9 @@
-// The fields of an identification header as eight numbers and the 255 places of its mapping, for callers in other languages.
+// The fields of an identification header as eight numbers and the 255 places of its mapping, and where its matrix lies, for
+// callers in other languages.
 ghost use mathlib.Core.Path.{_≡_};
-ghost use Rattle.head_numbers.specs.Numbers.{headNumbers, fitting, headFrom};
+ghost use Rattle.head_numbers.specs.Numbers.{headNumbers, fitting, headFrom, matrixNumbers};
 use head_fields::Head;
+use head_fields::place;
 
 // The eight numbers of a header (RULES.md, 14): version, channels, pre-skip, input rate, gain in 16 bits, family, streams,
 // coupled. It refuses nothing.
@@ -58,4 +60,15 @@ pub fn head_of(fields: &[u64; 8], mapping: &[u8; 255]) -> Head
         coupled: (fields[7] % 256) as u8,
         mapping: places,
     }
+}
+
+// Where a matrix of so many bytes lies in its header (RULES.md, 14): its place and its length, or two zeros where there is none.
+// It refuses nothing. Example: `matrix_numbers(32)` gives 21 and 32.
+pub fn matrix_numbers(size: usize) -> [u64; 2]
+    ensures { λ r. ⌜ r ≡ matrixNumbers size ⌝ }
+{
+    if size == 0 {
+        return [0, 0];
+    }
+    [place::MATRIX as u64, size as u64]
 }

@@ -6,7 +6,6 @@ use Prim.Native.Nat.{ℕ, suc, _+_, _≤_, _<_}
 use native.Mathlib.Nat.{le-of-suc-le-suc, not-suc-le-zero}
 use native.Mathlib.Omega.{arith}
 use borrow.Author.Tests.{le-leb}
-use lib.Dec.{eqb}
 use lib.ListN.{length, getD, take, drop, length-append, length-drop, List·getD-append}
 use lib.Seq.{take-append-le, drop-append-le}
 use Rattle.octets.specs.Octets.{Bytes, begins}
@@ -14,6 +13,7 @@ use Rattle.octets.specs.Numbers.{value, number}
 use Rattle.refusal.specs.Checks.{firstOf}
 use Rattle.head_fields.specs.Layout.{signature, versionPlace, channelsPlace, preskipPlace, ratePlace, gainPlace, familyPlace}
 use Rattle.head_fields.specs.Layout.{streamsPlace, coupledPlace, indicesPlace, startLength}
+use Rattle.head_families.specs.Families.{hasCounts, indexCount, matrixLength}
 use Rattle.head_fields.specs.Right.{mayExtend, rightLength}
 use Rattle.head_reader.specs.Fields.{streamsOf, coupledOf, indicesOf, headOf}
 use Rattle.head_reader.specs.Reading.{lengthOf, isHead, readHead}
@@ -39,6 +39,7 @@ module _ (b x : Bytes) where
 
   module _ (size : length b ≡ lengthOf b) where
     long : startLength ≤ length b
+    unfolding lengthOf
     long = omega arith
 
     same-family : getD (b ++ x) familyPlace 0 ≡ getD b familyPlace 0
@@ -52,24 +53,48 @@ module _ (b x : Bytes) where
 
     -- ---- by the family
 
-    with-table : eqb (getD b familyPlace 0) 0 ≡ false → length b ≡ startLength + (2 + getD b channelsPlace 0)
-    with-table e = rw e at size
+    module _ (e : hasCounts (getD b familyPlace 0) ≡ true) where
+      with-counts : indicesPlace + indexCount (getD b familyPlace 0) (getD b channelsPlace 0) ≤ length b
+      unfolding lengthOf
+      with-counts =
+          let table : length b ≡
+          startLength
+          + (2 + (indexCount (getD b familyPlace 0) (getD b channelsPlace 0)
+          + matrixLength (getD b familyPlace 0) (getD b streamsPlace 0) (getD b coupledPlace 0) (getD b channelsPlace 0)))
+          = rw e at size in
+          omega arith
 
-    same-streams : (t : Bool) → eqb (getD b familyPlace 0) 0 ≡ t → streamsOf (b ++ x) ≡ streamsOf b
+      streams-byte : getD (b ++ x) streamsPlace 0 ≡ getD b streamsPlace 0
+      streams-byte = byte-before streamsPlace (omega (arith, with-counts))
+
+      coupled-byte : getD (b ++ x) coupledPlace 0 ≡ getD b coupledPlace 0
+      coupled-byte = byte-before coupledPlace (omega (arith, with-counts))
+
+    same-streams : (t : Bool) → hasCounts (getD b familyPlace 0) ≡ t → streamsOf (b ++ x) ≡ streamsOf b
     unfolding streamsOf
-    same-streams true e = rw (same-family, e)
-    same-streams false e = rw (same-family, e, byte-before streamsPlace (omega (arith, with-table e)))
+    same-streams false e = rw (same-family, e)
+    same-streams true e = rw (same-family, e, streams-byte e)
 
-    same-coupled : (t : Bool) → eqb (getD b familyPlace 0) 0 ≡ t → coupledOf (b ++ x) ≡ coupledOf b
+    same-coupled : (t : Bool) → hasCounts (getD b familyPlace 0) ≡ t → coupledOf (b ++ x) ≡ coupledOf b
     unfolding coupledOf
-    same-coupled true e = rw (same-family, same-channels, e)
-    same-coupled false e = rw (same-family, e, byte-before coupledPlace (omega (arith, with-table e)))
+    same-coupled false e = rw (same-family, same-channels, e)
+    same-coupled true e = rw (same-family, e, coupled-byte e)
 
-    same-indices : (t : Bool) → eqb (getD b familyPlace 0) 0 ≡ t → indicesOf (b ++ x) ≡ indicesOf b
+    same-indices : (t : Bool) → hasCounts (getD b familyPlace 0) ≡ t → indicesOf (b ++ x) ≡ indicesOf b
     unfolding indicesOf
-    same-indices true e = rw (same-family, same-channels, e)
-    same-indices false e =
-        rw (same-family, same-channels, e, part (getD b channelsPlace 0) indicesPlace (omega (arith, with-table e)))
+    same-indices false e = rw (same-family, same-channels, e)
+    same-indices true e =
+        rw (
+          same-family,
+          same-channels,
+          e,
+          part (indexCount (getD b familyPlace 0) (getD b channelsPlace 0)) indicesPlace (with-counts e),
+        )
+
+    same-length : (t : Bool) → hasCounts (getD b familyPlace 0) ≡ t → lengthOf (b ++ x) ≡ lengthOf b
+    unfolding lengthOf
+    same-length false e = rw (same-family, same-channels, e)
+    same-length true e = rw (same-family, same-channels, streams-byte e, coupled-byte e)
 
     -- ---- the whole
 
@@ -83,9 +108,9 @@ module _ (b x : Bytes) where
           number-before 2 preskipPlace (omega (arith, long)),
           number-before 4 ratePlace (omega (arith, long)),
           number-before 2 gainPlace (omega (arith, long)),
-          same-streams (eqb (getD b familyPlace 0) 0) refl,
-          same-coupled (eqb (getD b familyPlace 0) 0) refl,
-          same-indices (eqb (getD b familyPlace 0) 0) refl,
+          same-streams (hasCounts (getD b familyPlace 0)) refl,
+          same-coupled (hasCounts (getD b familyPlace 0)) refl,
+          same-indices (hasCounts (getD b familyPlace 0)) refl,
         )
 
     same-test : mayExtend (getD b versionPlace 0) ≡ true → isHead (b ++ x) ≡ isHead b
@@ -95,8 +120,7 @@ module _ (b x : Bytes) where
         rw (
           begins-before signature b x (omega (arith, long)),
           same-version,
-          same-channels,
-          same-family,
+          same-length (hasCounts (getD b familyPlace 0)) refl,
           v,
           le-leb startLength (length (b ++ x)) (omega (arith, long, more)),
           le-leb startLength (length b) long,

@@ -1,11 +1,13 @@
 -- The mapping's 255 places: the used ones and the zeros after them, and how many channels there are at
 -- most. Assumes nothing.
 use mathlib.Core.Path.{_≡_, refl, ap₂}
-use mathlib.Core.Bool.{Bool, true, false}
+use mathlib.Core.Bool.{Bool, true, false, _&&_, _||_, false≢true}
 use mathlib.Core.List.{[], _∷_}
-use Prim.Native.Nat.{ℕ, zero, suc, _-_, _≤_}
+use mathlib.Core.Logic.{_⊎_, inl, inr, ⊎-elim}
+use Prim.Native.Nat.{ℕ, zero, suc, _+_, _*_, _-_, _≤_}
+use native.Mathlib.Nat.{le-trans, mul-le-mul-left, mul-le-mul-right}
 use native.Mathlib.Omega.{arith}
-use borrow.Author.Tests.{leb-true}
+use borrow.Author.Tests.{leb-true, eqb-true, not-false}
 use lib.Dec.{eqb, leb}
 use lib.ListN.{length, take, drop, replicate, length-drop, take-append-drop}
 use lib.Seq.{length-take-le, take-at, drop-at}
@@ -13,7 +15,9 @@ use Rattle.octets.specs.Octets.{Bytes}
 use Rattle.octets.specs.Pick.{pick}
 use Rattle.octets.proofs.Tests.{both, equal-and}
 use Rattle.head_reader.specs.Fields.{places}
-use Rattle.head_fields.specs.Right.{plainIndices, mostChannels, allowedChannels, allZero}
+use Rattle.head_families.specs.Families.{ambisonicBelow, ambisonicChannels, isAmbisonic, mostChannels, allowedChannels}
+use Rattle.head_families.specs.Families.{hasCounts, indexCount}
+use Rattle.head_fields.specs.Right.{plainIndices, allZero}
 
 -- the used places and the zeros after them
 
@@ -47,6 +51,31 @@ module _ (n : ℕ) (s : Bytes) where
 
 -- ---- how many channels there are
 
+bigger-square : (n : ℕ) → n * n ≤ (1 + n) * (1 + n)
+bigger-square n =
+    let more : n ≤ 1 + n = omega arith in
+    le-trans (mul-le-mul-right n more) (mul-le-mul-left (1 + n) more)
+
+either : (a b : Bool) → a || b ≡ true → (a ≡ true) ⊎ (b ≡ true)
+either true b e = inl refl
+either false b e = inr e
+
+ambisonic-most : (n c : ℕ) → ambisonicBelow n c ≡ true → c ≤ n * n + 2
+unfolding ambisonicBelow
+ambisonic-most zero c e = absurd (false≢true e)
+ambisonic-most (suc n) c e =
+    let square : ℕ = (1 + n) * (1 + n) in
+    let next : suc n ≡ 1 + n = omega arith in
+    let same : suc n * suc n ≡ square = ap₂ (λ (x y : ℕ). x * y) next next in
+    ⊎-elim
+    (λ (q : eqb c square ≡ true). omega (arith, same, eqb-true c square q))
+    (λ (t : eqb c (square + 2) || ambisonicBelow n c ≡ true).
+    ⊎-elim
+    (λ (q : eqb c (square + 2) ≡ true). omega (arith, same, eqb-true c (square + 2) q))
+    (λ (q : ambisonicBelow n c ≡ true). omega (arith, same, bigger-square n, ambisonic-most n c q))
+    (either (eqb c (square + 2)) (ambisonicBelow n c) t))
+    (either (eqb c square) (eqb c (square + 2) || ambisonicBelow n c) e)
+
 most-fits : (a b c : Bool) → pick a 2 (pick b 8 (pick c 255 0)) ≤ 255
 most-fits true b c = omega arith
 most-fits false true c = omega arith
@@ -54,13 +83,27 @@ most-fits false false true = omega arith
 most-fits false false false = omega arith
 
 module _ (f c : ℕ) (h : allowedChannels f c ≡ true) where
-  within : c ≤ mostChannels f
-  unfolding allowedChannels
-  within = leb-true c (mostChannels f) (both (leb 1 c) (leb c (mostChannels f)) h .1)
-
   pub channels-most : c ≤ 255
-  channels-most = omega (arith, within, most-fits (eqb f 0) (eqb f 1) (eqb f 255))
+  unfolding allowedChannels
+  channels-most = by (isAmbisonic f) refl
+    where
+      in-set : pick (isAmbisonic f) (ambisonicChannels c) (leb c (mostChannels f)) ≡ true
+      in-set = both (leb 1 c) (pick (isAmbisonic f) (ambisonicChannels c) (leb c (mostChannels f))) h .1
 
-  -- of family 0
-  pub plain-length : eqb f 0 ≡ true → length (take c plainIndices) ≡ c
-  plain-length e = let two : c ≤ 2 = rw e at within in length-take-le c plainIndices (omega arith)
+      by : (t : Bool) → isAmbisonic f ≡ t → c ≤ 255
+      by true e = omega (arith, ambisonic-most 15 c (rw e at in-set))
+      by false e = omega (arith, leb-true c (mostChannels f) (rw e at in-set), most-fits (eqb f 0) (eqb f 1) (eqb f 255))
+
+-- a family without counts is 0
+pub plain-family : (f : ℕ) → hasCounts f ≡ false → f ≡ 0
+plain-family f e = eqb-true f 0 (not-false (eqb f 0) e)
+
+-- it has at most two channels
+pub plain-length : (f c : ℕ) → allowedChannels f c ≡ true → hasCounts f ≡ false
+    → length (take (indexCount f c) plainIndices) ≡ indexCount f c
+unfolding allowedChannels
+plain-length f c h e =
+    let zero-family = plain-family f e in
+    let allowed : leb 1 c && leb c 2 ≡ true = rw zero-family at h in
+    let two : c ≤ 2 = leb-true c 2 (both (leb 1 c) (leb c 2) allowed .1) in
+    rw zero-family (length-take-le c plainIndices two)

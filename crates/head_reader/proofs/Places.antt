@@ -7,12 +7,13 @@ use Prim.Native.Nat.{ℕ, zero, suc, _+_, _-_, _≤_, _<_}
 use native.Mathlib.Nat.{sub-zero, zero-sub, suc-sub-suc}
 use native.Mathlib.Omega.{arith}
 use borrow.Author.Tests.{lt-leb, le-leb}
-use lib.Dec.{eqb}
 use lib.ListN.{length, getD, take, drop, replicate, length-replicate, length-take}
 use lib.Seq.{take-all}
 use Rattle.octets.specs.Octets.{Bytes, begins, copied}
 use Rattle.octets.proofs.Copying.{copied-next}
+use Rattle.limits.specs.Limits.{packetMax}
 use Rattle.head_reader.specs.Fields.{streamsOf, coupledOf, indicesOf, places}
+use Rattle.head_families.specs.Families.{hasCounts, indexCount}
 use Rattle.head_fields.specs.Right.{plainIndices, readableVersion, rightLength}
 use Rattle.head_fields.specs.Layout.{signature, versionPlace, channelsPlace, familyPlace, streamsPlace, coupledPlace, indicesPlace, startLength}
 use Rattle.head_reader.specs.Reading.{lengthOf, isHead}
@@ -20,7 +21,7 @@ use Rattle.head_reader.specs.Reading.{lengthOf, isHead}
 -- ---- by the family
 
 module _ (b : Bytes) where
-  module _ (table : eqb (getD b familyPlace 0) 0 ≡ false) where
+  module _ (table : hasCounts (getD b familyPlace 0) ≡ true) where
     pub table-streams : streamsOf b ≡ getD b streamsPlace 0
     unfolding streamsOf
     table-streams = rw table
@@ -29,11 +30,11 @@ module _ (b : Bytes) where
     unfolding coupledOf
     table-coupled = rw table
 
-    pub table-indices : indicesOf b ≡ take (getD b channelsPlace 0) (drop indicesPlace b)
+    pub table-indices : indicesOf b ≡ take (indexCount (getD b familyPlace 0) (getD b channelsPlace 0)) (drop indicesPlace b)
     unfolding indicesOf
     table-indices = rw table
 
-  module _ (plain : eqb (getD b familyPlace 0) 0 ≡ true) where
+  module _ (plain : hasCounts (getD b familyPlace 0) ≡ false) where
     pub plain-streams : streamsOf b ≡ 1
     unfolding streamsOf
     plain-streams = rw plain
@@ -42,7 +43,7 @@ module _ (b : Bytes) where
     unfolding coupledOf
     plain-coupled = rw plain
 
-    pub plain-indices : indicesOf b ≡ take (getD b channelsPlace 0) plainIndices
+    pub plain-indices : indicesOf b ≡ take (indexCount (getD b familyPlace 0) (getD b channelsPlace 0)) plainIndices
     unfolding indicesOf
     plain-indices = rw plain
 
@@ -59,14 +60,16 @@ copied-front n s h =
     copied-next (replicate n 0) [] s (omega (arith, length-replicate {A = ℕ} n 0)) ∙ ap (λ (z : Bytes). s ++ z) (drop-replicate (length s) n 0)
 
 -- the indices of a table
-pub from-table : (b : Bytes) (n : ℕ) → n ≤ 255 → n ≡ getD b channelsPlace 0 → eqb (getD b familyPlace 0) 0 ≡ false
+pub from-table : (b : Bytes) (n : ℕ) → n ≤ 255 → n ≡ indexCount (getD b familyPlace 0) (getD b channelsPlace 0)
+    → hasCounts (getD b familyPlace 0) ≡ true
     → copied (replicate 255 0) 0 (take n (drop indicesPlace b)) ≡ places (indicesOf b)
 unfolding places
 from-table b n h e table =
     rw (table-indices b table, ← e) (copied-front 255 (take n (drop indicesPlace b)) (simp length-take (omega arith)))
 
 -- those of family 0: from two channels on, and below
-pub from-two : (b : Bytes) (n : ℕ) → 1 < n → n ≡ getD b channelsPlace 0 → eqb (getD b familyPlace 0) 0 ≡ true → 0 ∷ 1 ∷ replicate 253 0 ≡ places (indicesOf b)
+pub from-two : (b : Bytes) (n : ℕ) → 1 < n → n ≡ indexCount (getD b familyPlace 0) (getD b channelsPlace 0)
+    → hasCounts (getD b familyPlace 0) ≡ false → 0 ∷ 1 ∷ replicate 253 0 ≡ places (indicesOf b)
 unfolding places
 from-two b n h e plain = rw (plain-indices b plain, ← e, take-all n plainIndices h)
 
@@ -76,7 +79,8 @@ below-two zero h = refl
 below-two (suc zero) h = refl
 below-two (suc (suc n)) h = absurd (omega arith)
 
-pub from-one : (b : Bytes) (n : ℕ) → n ≤ 1 → n ≡ getD b channelsPlace 0 → eqb (getD b familyPlace 0) 0 ≡ true → replicate 255 0 ≡ places (indicesOf b)
+pub from-one : (b : Bytes) (n : ℕ) → n ≤ 1 → n ≡ indexCount (getD b familyPlace 0) (getD b channelsPlace 0)
+    → hasCounts (getD b familyPlace 0) ≡ false → replicate 255 0 ≡ places (indicesOf b)
 from-one b n h e plain = rw (plain-indices b plain, ← e) (below-two n h)
 
 -- ---- the tests of a header
@@ -96,6 +100,11 @@ module _ (b : Bytes) where
       unfolding isHead
       short-head h = rw (s, v, lt-leb startLength (length b) h)
 
-      pub length-decides : startLength ≤ length b → isHead b ≡ rightLength (getD b versionPlace 0) (lengthOf b) (length b)
-      unfolding isHead
-      length-decides h = rw (s, v, le-leb startLength (length b) h)
+      module _ (h : startLength ≤ length b) where
+        pub long-head : packetMax < lengthOf b → isHead b ≡ false
+        unfolding isHead
+        long-head l = rw (s, v, le-leb startLength (length b) h, lt-leb (lengthOf b) packetMax l)
+
+        pub length-decides : lengthOf b ≤ packetMax → isHead b ≡ rightLength (getD b versionPlace 0) (lengthOf b) (length b)
+        unfolding isHead
+        length-decides l = rw (s, v, le-leb startLength (length b) h, le-leb (lengthOf b) packetMax l)

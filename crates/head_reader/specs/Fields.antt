@@ -1,5 +1,5 @@
--- The fields of an identification header by their places (RFC 7845, 5.1; RULES.md, 4). A place past the end of the bytes reads
--- as zero. Assumes nothing.
+-- The fields of an identification header by their places (RFC 7845, 5.1; RFC 8486, 3; RULES.md, 4). A place past the end of the
+-- bytes reads as zero. Assumes nothing.
 use Prim.Native.Nat.{ℕ, _-_}
 use mathlib.Core.List.{_++_}
 use lib.ListN.{length, getD, take, drop, replicate}
@@ -9,18 +9,21 @@ use Rattle.octets.specs.Pick.{pick}
 use Rattle.octets.specs.Octets.{Bytes}
 use Rattle.octets.specs.Numbers.{number}
 use Rattle.head_fields.specs.declared.Head.{Head}
-use Rattle.head_fields.specs.Right.{plainIndices, hasTable}
+use Rattle.head_families.specs.Families.{hasCounts, indexCount}
+use Rattle.head_fields.specs.Right.{plainIndices}
 use Rattle.head_fields.specs.Layout.{versionPlace, channelsPlace, preskipPlace, ratePlace, gainPlace, familyPlace}
-use Rattle.head_fields.specs.Layout.{streamsPlace, coupledPlace, indicesPlace}
+use Rattle.head_fields.specs.Layout.{streamsPlace, coupledPlace, indicesPlace, matrixPlace, matrixSize}
 
 unfoldable pub streamsOf : Bytes → ℕ
-streamsOf b = pick (hasTable (getD b familyPlace 0)) (getD b streamsPlace 0) 1
+streamsOf b = pick (hasCounts (getD b familyPlace 0)) (getD b streamsPlace 0) 1
 
 unfoldable pub coupledOf : Bytes → ℕ
-coupledOf b = pick (hasTable (getD b familyPlace 0)) (getD b coupledPlace 0) (getD b channelsPlace 0 - 1)
+coupledOf b = pick (hasCounts (getD b familyPlace 0)) (getD b coupledPlace 0) (getD b channelsPlace 0 - 1)
 
 unfoldable pub indicesOf : Bytes → Bytes
-indicesOf b = take (getD b channelsPlace 0) (pick (hasTable (getD b familyPlace 0)) (drop indicesPlace b) plainIndices)
+indicesOf b =
+    take (indexCount (getD b familyPlace 0) (getD b channelsPlace 0))
+    (pick (hasCounts (getD b familyPlace 0)) (drop indicesPlace b) plainIndices)
 
 -- the 255 places of the mapping, unused ones zero
 unfoldable pub places : Bytes → Bytes
@@ -39,3 +42,7 @@ headOf b = record {
   coupled = coupledOf b;
   mapping = places (indicesOf b);
 }
+
+-- the bytes of the matrix, none where the family has no matrix
+unfoldable pub matrixOf : Bytes → Bytes
+matrixOf b = take (matrixSize (headOf b)) (drop matrixPlace b)

@@ -1,5 +1,5 @@
--- Reading an identification header (RULES.md, refusals 12 and 13). 12 comes before 13, with the family byte as it is.
--- Assumes nothing.
+-- Reading an identification header (RULES.md, refusals 12 and 13). 12 comes before 13, with the bytes of the family and of the
+-- counts as they are. Assumes nothing.
 use Prim.Native.Nat.{ℕ}
 use mathlib.Core.Path.{_≡_}
 use mathlib.Core.Bool.{Bool, not, _&&_}
@@ -17,26 +17,33 @@ use Rattle.head_fields.specs.declared.Head.{Head}
 use Rattle.head_reader.specs.declared.Verdict.{Verdict}
 use Rattle.head_reader.specs.declared.Verdict.the-variants.{Right, Refused}
 use Rattle.head_reader.specs.declared.HeadRead.{HeadRead}
-use Rattle.head_reader.specs.Fields.{headOf}
+use Rattle.head_reader.specs.Fields.{headOf, matrixOf}
 use Rattle.head_fields.specs.Right.{readableVersion, rightLength, rightMapping}
-use Rattle.head_fields.specs.Layout.{signature, versionPlace, channelsPlace, familyPlace, startLength, headLength}
+use Rattle.head_fields.specs.Layout.{signature, versionPlace, channelsPlace, familyPlace, streamsPlace, coupledPlace}
+use Rattle.head_fields.specs.Layout.{startLength, headLength, fitsPacket}
 
--- how many bytes the fields of a header with this family and these channels take
-abbrev pub lengthOf : Bytes → ℕ
-lengthOf b = headLength (getD b familyPlace 0) (getD b channelsPlace 0)
+-- how many bytes the fields of a header with this family, these counts and these channels take
+unfoldable pub lengthOf : Bytes → ℕ
+lengthOf b =
+    headLength (getD b familyPlace 0) (getD b streamsPlace 0) (getD b coupledPlace 0) (getD b channelsPlace 0)
 
 -- signature, version and length are right
 unfoldable pub isHead : Bytes → Bool
 isHead b =
     begins signature b
     && (readableVersion (getD b versionPlace 0)
-    && (leb startLength (length b) && rightLength (getD b versionPlace 0) (lengthOf b) (length b)))
+    && (leb startLength (length b)
+    && (fitsPacket (lengthOf b) && rightLength (getD b versionPlace 0) (lengthOf b) (length b))))
 
 abbrev pub readChecks : Bytes → List Check
 readChecks b = BadHead when not (isHead b) ∷ BadMapping when not (rightMapping (headOf b)) ∷ []
 
 unfoldable pub readHead : Bytes → Told Head
 readHead b = decided (firstOf (readChecks b)) (headOf b)
+
+-- the matrix of a header that is read
+unfoldable pub readMatrix : Bytes → Told Bytes
+readMatrix b = decided (firstOf (readChecks b)) (matrixOf b)
 
 -- the record under a refusal
 abbrev pub noHead : Head

@@ -1,11 +1,12 @@
-// Reading the identification header of an Ogg Opus stream (RFC 7845, 5.1).
+// Reading the identification header of an Ogg Opus stream (RFC 7845, 5.1; RFC 8486, 3).
 ghost use mathlib.Core.Path.{_≡_};
 ghost use Rattle.head_reader.specs.Fields.{streamsOf, coupledOf, indicesOf, places, headOf};
-ghost use Rattle.head_reader.specs.Reading.{isHead, WasRefused, HeadIs};
+ghost use Rattle.head_reader.specs.Reading.{lengthOf, isHead, WasRefused, HeadIs};
 use head_fields::Head;
 use head_fields::SIGNATURE;
 use head_fields::START_LENGTH;
 use head_fields::place;
+use limits::PACKET_MAX;
 use refusal::Refusal;
 
 pub enum Verdict {
@@ -21,22 +22,19 @@ pub struct HeadRead {
     pub head: Head,
 }
 
-// The mapping's 255 places: the indices of the table, or those of family 0, and zeros.
+// The mapping's 255 places: the indices of the table, or those of family 0, and zeros. Family 3 has no indices.
 fn mapping_of(b: &[u8]) -> [u8; 255]
     ensures { λ r. ⌜ r ≡ places (indicesOf (now (b .entry))) ⌝ }
 {
     let mut mapping = [0u8; 255];
-    let channels = octets::wide(octets::byte_at(b, place::CHANNELS));
     let family = octets::byte_at(b, place::FAMILY);
-    if family != 0 {
-        octets::copy_at(
-            &mut mapping,
-            0,
-            octets::part_of(b, place::INDICES, channels),
-        );
+    let channels = octets::byte_at(b, place::CHANNELS);
+    let used = head_families::index_count(family, channels);
+    if head_families::has_counts(family) {
+        octets::copy_at(&mut mapping, 0, octets::part_of(b, place::INDICES, used));
         return mapping;
     }
-    if channels > 1 {
+    if used > 1 {
         mapping[1] = 1;
     }
     mapping
@@ -45,7 +43,7 @@ fn mapping_of(b: &[u8]) -> [u8; 255]
 fn streams_of(b: &[u8]) -> u8
     ensures { λ r. ⌜ r ≡ streamsOf (now (b .entry)) ⌝ }
 {
-    if octets::byte_at(b, place::FAMILY) != 0 {
+    if head_families::has_counts(octets::byte_at(b, place::FAMILY)) {
         return octets::byte_at(b, place::STREAMS);
     }
     1
@@ -54,7 +52,7 @@ fn streams_of(b: &[u8]) -> u8
 fn coupled_of(b: &[u8]) -> u8
     ensures { λ r. ⌜ r ≡ coupledOf (now (b .entry)) ⌝ }
 {
-    if octets::byte_at(b, place::FAMILY) != 0 {
+    if head_families::has_counts(octets::byte_at(b, place::FAMILY)) {
         return octets::byte_at(b, place::COUPLED);
     }
     let channels = octets::byte_at(b, place::CHANNELS);
@@ -82,6 +80,17 @@ fn head_of(b: &[u8]) -> Head
     }
 }
 
+// How many bytes the fields take, by the bytes as they are.
+fn length_of(b: &[u8]) -> usize
+    ensures { λ r. ⌜ r ≡ lengthOf (now (b .entry)) ⌝ }
+{
+    let family = octets::byte_at(b, place::FAMILY);
+    let streams = octets::byte_at(b, place::STREAMS);
+    let coupled = octets::byte_at(b, place::COUPLED);
+    let channels = octets::byte_at(b, place::CHANNELS);
+    head_fields::head_length(family, streams, coupled, channels)
+}
+
 // Signature, version and length are right.
 fn is_head(b: &[u8]) -> bool
     ensures { λ r. ⌜ r ≡ isHead (now (b .entry)) ⌝ }
@@ -96,9 +105,10 @@ fn is_head(b: &[u8]) -> bool
     if b.len() < START_LENGTH {
         return false;
     }
-    let family = octets::byte_at(b, place::FAMILY);
-    let channels = octets::byte_at(b, place::CHANNELS);
-    let fields = head_fields::head_length(family, channels);
+    let fields = length_of(b);
+    if fields > PACKET_MAX {
+        return false;
+    }
     head_fields::right_length(version, fields, b.len())
 }
 

@@ -1,10 +1,11 @@
--- Writing an identification header (RULES.md, refusals 23 and 22; RFC 7845, 5.1). Assumes nothing.
-use Prim.Native.Nat.{ℕ}
+-- Writing an identification header with its matrix (RULES.md, refusals 23 and 22; RFC 7845, 5.1; RFC 8486, 3). Assumes
+-- nothing.
+use Prim.Native.Nat.{ℕ, _≤_}
 use mathlib.Core.Path.{_≡_}
-use mathlib.Core.Bool.{not}
+use mathlib.Core.Bool.{Bool, not, _&&_}
 use mathlib.Core.List.{List, [], _∷_, _++_}
 use mathlib.Core.Option.{Option, none, some}
-use lib.Dec.{ltb}
+use lib.Dec.{ltb, eqb}
 use lib.ListN.{length}
 use mir.Syntax.{w16}
 use mir.Val.{ofZ}
@@ -19,8 +20,9 @@ use Rattle.refusal.specs.Numbers.{numberOf}
 use Rattle.head_fields.specs.declared.Head.{Head}
 use Rattle.head_writer.specs.declared.HeadWritten.{HeadWritten}
 use Rattle.head_writer.specs.declared.HeadWritten.the-variants.{Bytes as Written, Refused}
-use Rattle.head_fields.specs.Right.{hasTable, usedPlaces, writableHead}
-use Rattle.head_fields.specs.Layout.{signature, headLength}
+use Rattle.head_families.specs.Families.{hasCounts}
+use Rattle.head_fields.specs.Layout.{signature, matrixSize, headSize}
+use Rattle.head_fields.specs.Right.{usedPlaces, writableHead}
 
 -- the bytes before the table
 unfoldable pub startOf : Head → Bytes
@@ -28,33 +30,39 @@ startOf h =
     signature ++ (h .version ∷ h .channels ∷ []) ++ octets 2 (h .preskip) ++ octets 4 (h .rate)
     ++ octets 2 (ofZ w16 (h .gain)) ++ (h .family ∷ [])
 
--- the bytes of a header
-unfoldable pub headBytes : Head → Bytes
-headBytes h = startOf h ++ pick (hasTable (h .family)) (h .streams ∷ h .coupled ∷ usedPlaces h) []
+-- the bytes of a header: its fields h, and its matrix m after the indices
+unfoldable pub headBytes : Head → Bytes → Bytes
+headBytes h m = startOf h ++ pick (hasCounts (h .family)) (h .streams ∷ h .coupled ∷ (usedPlaces h ++ m)) []
 
-abbrev pub headSize : Head → ℕ
-headSize h = headLength (h .family) (h .channels)
+-- the fields are right, and the matrix has as many bytes as they say
+abbrev pub writableWith : Head → Bytes → Bool
+writableWith h m = writableHead h && eqb (length m) (matrixSize h)
 
-abbrev pub writeChecks : Head → ℕ → List Check
-writeChecks h n = UnfitFields when not (writableHead h) ∷ ShortOutput when ltb n (headSize h) ∷ []
+abbrev pub writeChecks : Head → Bytes → ℕ → List Check
+writeChecks h m n = UnfitFields when not (writableWith h m) ∷ ShortOutput when ltb n (headSize h) ∷ []
 
 -- the output at the end: a refusal writes nothing
 abbrev pub written : Option Refusal → Bytes → Bytes → Bytes
 written none out b = copied out 0 b
 written (some r) out b = out
 
-unfoldable pub writeTold : Head → Bytes → Told ℕ
-writeTold h out = decided (firstOf (writeChecks h (length out))) (headSize h)
+unfoldable pub writeTold : Head → Bytes → Bytes → Told ℕ
+writeTold h m out = decided (firstOf (writeChecks h m (length out))) (headSize h)
 
-unfoldable pub writeOut : Head → Bytes → Bytes
-writeOut h out = written (firstOf (writeChecks h (length out))) out (headBytes h)
+unfoldable pub writeOut : Head → Bytes → Bytes → Bytes
+writeOut h m out = written (firstOf (writeChecks h m (length out))) out (headBytes h m)
 
 -- what the code's answer tells
 abbrev pub toldWritten : HeadWritten → Told ℕ
 toldWritten (Written n) = gives n
 toldWritten (Refused r) = refuses (numberOf r)
 
+-- a matrix m as the fields h say, and an output with room for both
+pub record HeadFits (h : Head) (m out : Bytes) : Type 0 where
+  pub matrix : length m ≡ matrixSize h
+  pub room : headSize h ≤ length out
+
 -- the answer r, and the output from `out` at entry to `end` at exit
-pub record Wrote (h : Head) (out : Bytes) (r : HeadWritten) (end : Bytes) : Type 0 where
-  pub told : toldWritten r ≡ writeTold h out
-  pub output : end ≡ writeOut h out
+pub record Wrote (h : Head) (m out : Bytes) (r : HeadWritten) (end : Bytes) : Type 0 where
+  pub told : toldWritten r ≡ writeTold h m out
+  pub output : end ≡ writeOut h m out

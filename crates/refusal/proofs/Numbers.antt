@@ -4,7 +4,7 @@ use Rattle.refusal.specs.declared.Refusal.the-variants.{ShortRoom, After
 use Rattle.refusal.specs.declared.Refusal.the-variants.{OutOfSequence, WrongFlags, WrongContinued, PacketTooLong}
 use Rattle.refusal.specs.declared.Refusal.the-variants.{HeaderShape, WrongGranule, BadHead, BadMapping, BadTags}
 use Rattle.refusal.specs.declared.Refusal.the-variants.{IllegalPacket, MixedLengths, GranuleTooSmall, BelowPreSkip}
-use Rattle.refusal.specs.declared.Refusal.the-variants.{NoPosition, NoSuchComment, BadGain, ShortOutput, UnfitFields}
+use Rattle.refusal.specs.declared.Refusal.the-variants.{NoPosition, NoSuchPart, BadGain, ShortOutput, UnfitFields}
 use Rattle.refusal.specs.declared.Refusal.the-variants.{ClockRange}
 use Rattle.refusal.specs.Statements.{NumbersPositive}
 
@@ -28,7 +28,7 @@ numbers-positive MixedLengths = refl
 numbers-positive GranuleTooSmall = refl
 numbers-positive BelowPreSkip = refl
 numbers-positive NoPosition = refl
-numbers-positive NoSuchComment = refl
+numbers-positive NoSuchPart = refl
 numbers-positive BadGain = refl
 numbers-positive ShortOutput = refl
 numbers-positive UnfitFields = refl

@@ -5,7 +5,7 @@ use Rattle.refusal.specs.declared.Refusal.the-variants.{ShortRoom, After
 use Rattle.refusal.specs.declared.Refusal.the-variants.{OtherSerial, OutOfSequence, WrongFlags, WrongContinued}
 use Rattle.refusal.specs.declared.Refusal.the-variants.{PacketTooLong, HeaderShape, WrongGranule, BadHead}
 use Rattle.refusal.specs.declared.Refusal.the-variants.{BadMapping, BadTags, IllegalPacket, MixedLengths}
-use Rattle.refusal.specs.declared.Refusal.the-variants.{GranuleTooSmall, BelowPreSkip, NoPosition, NoSuchComment}
+use Rattle.refusal.specs.declared.Refusal.the-variants.{GranuleTooSmall, BelowPreSkip, NoPosition, NoSuchPart}
 use Rattle.refusal.specs.declared.Refusal.the-variants.{BadGain, ShortOutput, UnfitFields, ClockRange}
 
 abbrev pub numberOf : Refusal → ℕ
@@ -28,7 +28,7 @@ numberOf MixedLengths = 16
 numberOf GranuleTooSmall = 17
 numberOf BelowPreSkip = 18
 numberOf NoPosition = 19
-numberOf NoSuchComment = 20
+numberOf NoSuchPart = 20
 numberOf BadGain = 21
 numberOf ShortOutput = 22
 numberOf UnfitFields = 23

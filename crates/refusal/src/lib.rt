@@ -41,8 +41,8 @@ pub enum Refusal {
     BelowPreSkip,
     // 19: the reader was opened part way, and its first page where a packet completes is marked last
     NoPosition,
-    // 20: the comment header has no such comment
-    NoSuchComment,
+    // 20: the comment header has no such comment, or the matrix no such entry
+    NoSuchPart,
     // 21: the comment's value is no gain
     BadGain,
     // 22: the output is too short
@@ -77,7 +77,7 @@ pub fn number(r: Refusal) -> u8
         Refusal::GranuleTooSmall => 17,
         Refusal::BelowPreSkip => 18,
         Refusal::NoPosition => 19,
-        Refusal::NoSuchComment => 20,
+        Refusal::NoSuchPart => 20,
         Refusal::BadGain => 21,
         Refusal::ShortOutput => 22,
         Refusal::UnfitFields => 23,

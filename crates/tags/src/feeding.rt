@@ -1,5 +1,4 @@
 // Reading standard input, and feeding its pages up to the comment header.
-use head_fields::Head;
 use limits::LIST_MAX;
 use page_end::End;
 use reader::Fed;
@@ -18,10 +17,10 @@ pub(crate) enum Stage {
     Unread,
 }
 
-// How far feeding has come.
+// How far feeding has come. The identification header's packet has so many bytes, none before its page was accepted.
 pub(crate) struct Progress {
     reader: Reader,
-    pub(crate) head: Head,
+    pub(crate) header_size: usize,
     pub(crate) pages: u64,
     pub(crate) stage: Stage,
 }
@@ -63,10 +62,9 @@ fn read_after(buffer: &mut [u8], n: usize) -> Got {
 
 fn stopped(p: Progress, stage: Stage) -> Progress {
     let reader = p.reader;
-    let head = p.head;
     Progress {
         reader,
-        head,
+        header_size: p.header_size,
         pages: p.pages,
         stage,
     }
@@ -80,37 +78,35 @@ fn comment_stage(before: Reader, next: Reader, body: &[u8]) -> Stage {
     Stage::Complete(std::num::wrapping_add_usize(reader::held(before), body.len()))
 }
 
-// After the first page was accepted, which is the identification header, or a page of the comment packet.
-fn accepted(p: Progress, next: Reader, body: &[u8]) -> Progress {
+// After the first page was accepted, whose body is the identification header's packet, or a page of the comment packet.
+fn accepted(p: Progress, next: Reader, body: &[u8], header: &mut [u8]) -> Progress {
     if p.pages == 0 {
-        let read = head_reader::read_head(body);
-        let head = read.head;
+        octets::copy_at(header, 0, body);
         return Progress {
             reader: next,
-            head,
+            header_size: body.len(),
             pages: 1,
             stage: Stage::Feeding,
         };
     }
     let before = p.reader;
-    let head = p.head;
     Progress {
         reader: next,
-        head,
+        header_size: p.header_size,
         pages: std::num::wrapping_add_u64(p.pages, 1),
         stage: comment_stage(before, next, body),
     }
 }
 
-fn fed_page(p: Progress, fed: Fed, body: &[u8]) -> Progress {
+fn fed_page(p: Progress, fed: Fed, body: &[u8], header: &mut [u8]) -> Progress {
     match fed {
-        Fed::Accepted(next, _) => accepted(p, next, body),
+        Fed::Accepted(next, _) => accepted(p, next, body, header),
         Fed::Refused(why) => stopped(p, Stage::Refused(refusal::number(why))),
     }
 }
 
 // Feeding asks for lists with room for a page's packets, but no packet of a header is listed.
-fn feed_page(p: Progress, page: &[u8], carry: &mut [u8]) -> Progress {
+fn feed_page(p: Progress, page: &[u8], carry: &mut [u8], header: &mut [u8]) -> Progress {
     let reader = p.reader;
     let mut ends = [0u64; LIST_MAX];
     let mut lengths = [0u64; LIST_MAX];
@@ -125,7 +121,7 @@ fn feed_page(p: Progress, page: &[u8], carry: &mut [u8]) -> Progress {
         &mut kept,
         &mut frames,
     );
-    fed_page(p, fed, page_layout::body_of(page))
+    fed_page(p, fed, page_layout::body_of(page), header)
 }
 
 // At the end of the input, where n bytes of a page that is not whole are left.
@@ -159,13 +155,13 @@ fn read_turn(p: Progress, n: usize, buffer: &mut [u8]) -> State {
 }
 
 // Feeds one page, or reads on where it is not whole yet.
-fn turn(s: State, buffer: &mut [u8], carry: &mut [u8]) -> State {
+fn turn(s: State, buffer: &mut [u8], carry: &mut [u8], header: &mut [u8]) -> State {
     let p = s.progress;
     match page_end::end_at(octets::part_of(buffer, 0, s.end), s.start) {
         End::At(last) => {
             let size = std::num::wrapping_sub_usize(last, s.start);
             State {
-                progress: feed_page(p, octets::part_of(buffer, s.start, size), carry),
+                progress: feed_page(p, octets::part_of(buffer, s.start, size), carry, header),
                 start: last,
                 end: s.end,
             }
@@ -188,14 +184,12 @@ fn goes_on(p: Progress) -> bool {
     }
 }
 
-// Nothing is fed yet, and no header is known: the fields are those of a reading that is refused.
+// Nothing is fed yet, and no header is known.
 fn begin() -> State {
-    let read = head_reader::read_head(b"");
-    let head = read.head;
     State {
         progress: Progress {
             reader: reader::start(),
-            head,
+            header_size: 0,
             pages: 0,
             stage: Stage::Feeding,
         },
@@ -204,12 +198,12 @@ fn begin() -> State {
     }
 }
 
-// Reads and feeds until the stage is another.
-pub(crate) fn run(buffer: &mut [u8], carry: &mut [u8]) -> Progress {
+// Reads and feeds until the stage is another. The identification header's packet is left in `header`.
+pub(crate) fn run(buffer: &mut [u8], carry: &mut [u8], header: &mut [u8]) -> Progress {
     let mut turns = u64::MAX;
     let mut s = begin();
     while turns > 0 {
-        s = turn(s, buffer, carry);
+        s = turn(s, buffer, carry, header);
         let p = s.progress;
         if !goes_on(p) {
             return p;

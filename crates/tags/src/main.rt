@@ -22,22 +22,26 @@ pub(crate) fn write(out: &[u8], n: usize) -> bool {
     written
 }
 
-fn tell(p: Progress, carry: &[u8]) {
-    let head = p.head;
+fn tell(p: Progress, carry: &[u8], header: &[u8]) {
     let stage = p.stage;
     match stage {
         Stage::Feeding => say(b"tags: the input does not end\n"),
-        Stage::Complete(size) => listing::list(head, octets::part_of(carry, 0, size)),
+        Stage::Complete(size) => listing::list(
+            octets::part_of(header, 0, p.header_size),
+            octets::part_of(carry, 0, size),
+        ),
         Stage::Refused(number) => listing::list_refused(number, p.pages),
         Stage::Cut => say(b"tags: the input ends before the comment header\n"),
         Stage::Unread => {}
     }
 }
 
-// The input buffer has room for a page, of 65,307 bytes at most, and for a read as long after it.
+// The input buffer has room for a page, of 65,307 bytes at most, and for a read as long after it. The other two have room for
+// a packet each: the comment header, and the identification header.
 fn main() {
     let mut buffer = [0u8; 131072];
     let mut carry = [0u8; PACKET_MAX];
-    let p = feeding::run(&mut buffer, &mut carry);
-    tell(p, &carry);
+    let mut header = [0u8; PACKET_MAX];
+    let p = feeding::run(&mut buffer, &mut carry, &mut header);
+    tell(p, &carry, &header);
 }

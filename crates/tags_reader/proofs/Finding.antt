@@ -10,7 +10,7 @@ use lib.ListN.{length}
 use Rattle.octets.specs.Octets.{Bytes, begins}
 use Rattle.octets.proofs.Tests.{both}
 use Rattle.refusal.specs.declared.Refusal.{Refusal}
-use Rattle.refusal.specs.declared.Refusal.the-variants.{BadTags, NoSuchComment}
+use Rattle.refusal.specs.declared.Refusal.the-variants.{BadTags, NoSuchPart}
 use Rattle.refusal.specs.Numbers.{numberOf}
 use Rattle.refusal.specs.Checks.{firstOf, orElse}
 use Rattle.refusal.specs.Told.{gives, refuses, decided, retold}
@@ -64,7 +64,7 @@ module _ (b : Bytes) (right : isTags b ≡ true) where
   unfolding findText findVendor firstOf
   vendor-found = rw (right, vendor-fits b right)
 
-  pub no-such-comment : (i : ℕ) → countOf b ≤ i → findComment b i ≡ refuses (numberOf NoSuchComment)
+  pub no-such-comment : (i : ℕ) → countOf b ≤ i → findComment b i ≡ refuses (numberOf NoSuchPart)
   unfolding findComment firstOf
   no-such-comment i h = rw (right, le-leb (countOf b) i h)
 

@@ -7,7 +7,7 @@ use lib.Dec.{leb}
 use lib.IntN.{ℤ}
 use lib.ListN.{length}
 use Rattle.octets.specs.Octets.{Bytes}
-use Rattle.refusal.specs.declared.Refusal.the-variants.{BadTags, NoSuchComment}
+use Rattle.refusal.specs.declared.Refusal.the-variants.{BadTags, NoSuchPart}
 use Rattle.refusal.specs.Checks.{Check, _when_, firstOf}
 use Rattle.refusal.specs.Told.{Told, gives, refuses, decided}
 use Rattle.refusal.specs.Numbers.{numberOf}
@@ -35,7 +35,7 @@ unfoldable pub findVendor : Bytes → Told Part
 findVendor b = decided (firstOf (readChecks b)) (vendorPart b)
 
 abbrev pub findChecks : Bytes → ℕ → List Check
-findChecks b i = readChecks b ++ (NoSuchComment when leb (countOf b) i ∷ [])
+findChecks b i = readChecks b ++ (NoSuchPart when leb (countOf b) i ∷ [])
 
 abbrev pub commentPart : Bytes → ℕ → Part
 commentPart b i = partAt b (commentPlace b i)

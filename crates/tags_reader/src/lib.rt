@@ -151,7 +151,7 @@ pub fn find_comment(b: &[u8], i: usize) -> PartRead
         return PartRead::Refused(Refusal::BadTags);
     }
     if n <= i {
-        return PartRead::Refused(Refusal::NoSuchComment);
+        return PartRead::Refused(Refusal::NoSuchPart);
     }
     tags_layout::find_text(b, place_in(here))
 }

@@ -16,7 +16,7 @@ use Rattle.text_put.proofs.Filling.{filling-first, filling-done}
 use Rattle.text_put.proofs.Putting.{laid-put, laid-then, length-laid}
 use Rattle.text_decimal.specs.Decimal.{decimal}
 use Rattle.text_decimal.specs.Digits.{lowest}
-use Rattle.text_decimal.proofs.Decimal.{length-u64, length-lowest}
+use Rattle.text_decimal.proofs.Decimal.{length-most, length-u64, length-lowest}
 use Rattle.text_gain.specs.Numbers.{signOf, signedDecimal, unit, decibels, decibelsEnd}
 
 -- ---- signs: b is the bits of g
@@ -89,11 +89,11 @@ size-most (pos n) h = omega arith
 size-most (negsuc n) h = omega arith
 
 module _ (g : ℤ) (small : mag g < 2 ^ 15) where
-  pub length-signed : length (signedDecimal g) ≤ 21
+  pub length-signed : length (signedDecimal g) ≤ 6
   unfolding signedDecimal
   length-signed =
       let size = size-most g small in
-      omega (arith, length-append (signOf g) (decimal (natAbs g)), sign-most g, length-u64 (natAbs g) (omega arith))
+      omega (arith, length-append (signOf g) (decimal (natAbs g)), sign-most g, length-most (natAbs g) 4 (omega arith))
 
   length-decibels : length (decibels g) ≤ 33
   unfolding decibels

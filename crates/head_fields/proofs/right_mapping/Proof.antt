@@ -29,24 +29,23 @@ long : (c : tie.After-mapping) → length (c .before .before .before .before .be
 long c = search needs
 
 array-share-prefix-mapping : tie.Need-array-share-prefix-mapping
-array-share-prefix-mapping c = omega (arith, long (c .before .before .before))
+array-share-prefix-mapping c = let used = c .before .before in omega (arith, long (used .before), used .index-count .ensures .most)
 
 slice-aggregate-right-indices : tie.Need-slice-aggregate-right-indices
-slice-aggregate-right-indices c = sym (length-take-le _ _ (omega (arith, long (c .before .before .before .before))))
+slice-aggregate-right-indices c = sym (length-take-le _ _ (array-share-prefix-mapping (c .before)))
 
 returns-3 : tie.Need-returns-3
 returns-3 c =
-    let three = c .before .before in
-    let one = three .before .before in
-    let two = one .before .before in
-    let streams = two .before .right-streams in
-    let channels = two .before .before .before .allowed-channels in
-    let h = two .before .before .before .before .args .h in
-    let sum : three .before .wide2 .result + three .wide3 .result ≡ h .coupled + h .streams = omega arith in
+    let streams = c .before .before in
+    let used = streams .before .before in
+    let two = used .before .before in
+    let one = two .before .before in
+    let h = one .before .before .args .h in
+    let sum : streams .before .wide .result + streams .wide2 .result ≡ h .coupled + h .streams = omega arith in
     c .right-indices .ensures
     ∙ sym
-    (indices-decide h (held (channels .ensures) (two .before .before .if1 .left))
-    (held (streams .ensures) (two .if2 .left)) sum (one .wide .ensures .same))
+    (indices-decide h (held (one .before .allowed-channels .ensures) (one .if1 .left))
+    (held (two .before .right-streams .ensures) (two .if2 .left)) sum (used .index-count .ensures .same))
 
 pub right-mapping-spec : {M : Type 1} → statement M
 right-mapping-spec =

@@ -1,25 +1,27 @@
 -- `head_fields::right_plain` meets its contract. Assumes nothing.
 use mathlib.Core.Path.{_≡_, sym, ap, _∙_}
+use mathlib.Core.Bool.{false}
 use Prim.Native.Nat.{ℕ, _-_, min}
 use native.Mathlib.Omega.{arith}
 use borrow.Author.Needs.{needs}
 use lib.ListN.{length-take}
 use Rattle.head_fields.specs.declared.Head.{Head}
+use Rattle.head_families.specs.Families.{hasCounts}
 use Rattle.head_fields.specs.Right.{plainIndices}
-use Rattle.head_fields.proofs.Checks.{with-table, other-streams, coupled-decides, other-coupled, start-decides}
+use Rattle.head_fields.proofs.Checks.{with-counts, other-streams, coupled-decides, other-coupled, start-decides}
 use Rattle.head_fields.proofs.right_plain.Statement.{statement}
 use Rattle.head_fields.proofs.right_plain.Tie as tie
 
 returns : tie.Need-returns
-returns c = sym (with-table (c .before .before .args .h) (c .if1 .taken))
+returns c = sym (with-counts (c .before .before .args .h) (sym (c .before .has-counts .ensures) ∙ c .if1 .taken))
 
 -- the header of family 0, and the two numbers that were widened
 module _ (c : tie.After-wide2) where
   abbrev head : Head
   head = c .before .before .before .before .args .h
 
-  abbrev family : head .family ≡ 0
-  family = c .before .before .if1 .left
+  abbrev family : hasCounts (head .family) ≡ false
+  family = sym (c .before .before .before .has-counts .ensures) ∙ c .before .before .if1 .left
 
   abbrev channels : c .before .wide .result ≡ head .channels
   channels = c .before .wide .ensures .same
@@ -57,5 +59,5 @@ pub right-plain-spec : {M : Type 1} → statement M
 right-plain-spec =
     tie.close
     (tie.spec
-    returns (λ c κs. search needs) (λ c κs. search needs) returns-2 returns-3 (λ c. search needs) returns-4
+    (λ c κs. search needs) returns (λ c κs. search needs) (λ c κs. search needs) returns-2 returns-3 (λ c. search needs) returns-4
     (λ c κs. search needs) (λ c. search needs) (λ c. search needs) slice-aggregate-begins-with-2 (λ c κs. search needs) returns-5)

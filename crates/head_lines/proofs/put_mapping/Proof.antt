@@ -8,6 +8,7 @@ use denote.Ref.{now}
 use lib.ListN.{length, take, length-take}
 use Rattle.octets.specs.Octets.{Bytes}
 use Rattle.text_put.proofs.Putting.{put-known}
+use Rattle.head_fields.specs.Layout.{usedCount}
 use Rattle.head_fields.specs.Right.{usedPlaces}
 use Rattle.head_lines.specs.Lines.{mappingIs, mappingEnd, mappingLine}
 use Rattle.head_lines.proofs.Parts.{put-ended}
@@ -16,13 +17,14 @@ use Rattle.head_lines.proofs.put_mapping.Tie as tie
 
 -- the part that is used
 used : (c : tie.After-part-of) → now (c .part-of .result) ≡ usedPlaces (c .before .before .before .before .before .before .args .head)
-used c = c .part-of .ensures ∙ ap (λ (n : ℕ). take n (c .before .before .before .before .before .before .args .head .mapping)) (c .before .wide .ensures .same)
+used c = c .part-of .ensures ∙ ap (λ (n : ℕ). take n (c .before .before .before .before .before .before .args .head .mapping)) (c .before .before .before .index-count .ensures .same)
 
 lay-mapping-requires : tie.Need-lay-mapping-requires
 lay-mapping-requires c κs =
     let h = c .before .before .before .before .before .before .args .head in
-    let size = ap length (used c) ∙ length-take (h .channels) (h .mapping) in
-    record { few = omega (arith, size, c .before .wide .ensures); room = omega arith }
+    let n = c .before .before .before .index-count .ensures in
+    let size = ap length (used c) ∙ length-take (usedCount h) (h .mapping) in
+    record { few = omega (arith, size, n .same, n .most); room = omega arith }
 
 returns : tie.Need-returns
 unfolding mappingLine
@@ -36,5 +38,5 @@ pub put-mapping-spec : {M : Type 1} → statement M
 put-mapping-spec =
     tie.close
     (tie.spec
-    (λ c. search needs) (λ c. search needs) (λ c κs. search needs) (λ c κs. search needs) lay-mapping-requires
+    (λ c κs. search needs) (λ c. search needs) (λ c. search needs) (λ c κs. search needs) lay-mapping-requires
     (λ c. search needs) (λ c. search needs) (λ c κs. search needs) (λ c κs. search needs) (λ c. search needs) returns)

@@ -1,6 +1,8 @@
 -- `text_gain::put_signed` meets its contract: made in a buffer of its own, and put whole. Assumes nothing.
 use mathlib.Core.Path.{ap}
+use native.Mathlib.Omega.{arith}
 use borrow.Author.Needs.{needs}
+use lib.ListN.{length}
 use mir.Facts.{toZ-ofZ}
 use Rattle.text_put.proofs.Putting.{put-made, put-known}
 use Rattle.text_gain.specs.Numbers.{signedDecimal}
@@ -13,8 +15,9 @@ returns c =
     let made = c .before .before .before .before .before .before .before in
     let s = made .before .before .before in
     let same = ap signedDecimal (toZ-ofZ (s .fits .g)) in
+    let short = length-signed (s .args .g) (s .fits .g .sfits) in
     put-known same
-    (put-made (made .lay-signed .ensures) (rw (← same) at (length-signed (s .args .g) (s .fits .g .sfits))) (c .before .before .before .part-of .ensures) (c .before .before .put-bytes .ensures))
+    (put-made (made .lay-signed .ensures) (omega (arith, ap length same)) (c .before .before .before .part-of .ensures) (c .before .before .put-bytes .ensures))
 
 pub put-signed-spec : {M : Type 1} → statement M
 put-signed-spec =

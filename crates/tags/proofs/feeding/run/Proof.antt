@@ -6,15 +6,16 @@ use Rattle.tags.proofs.feeding.run.Statement.{statement}
 use Rattle.tags.proofs.feeding.run.Tie as tie
 
 abbrev Inv-loop : tie.InvT-loop
-Inv-loop buffer₀ carry₀ turns₀ s₀ buffer carry turns s = (length buffer ≡ length buffer₀) × (length carry ≡ length carry₀)
+Inv-loop buffer₀ carry₀ header₀ turns₀ s₀ buffer carry header turns s =
+    (length buffer ≡ length buffer₀) × ((length carry ≡ length carry₀) × (length header ≡ length header₀))
 
 abbrev μ-loop : tie.MeasureT-loop
-μ-loop buffer₀ carry₀ turns₀ s₀ buffer carry turns s = turns
+μ-loop buffer₀ carry₀ header₀ turns₀ s₀ buffer carry header turns s = turns
 
 pub run-spec : {M : Type 1} → statement M
 run-spec =
     tie.close
     (tie.spec Inv-loop μ-loop
     (λ c κs. tt) (λ c. search needs) (λ c κs. tt) (λ c κs. tt)
-    (λ c. search needs) (λ c. search needs) (λ c. search needs)
-    (λ c. search needs) (λ c. search needs) (λ c. search needs) (λ c. search needs) (λ c. search needs) (λ c. search needs))
+    (λ c. search needs) (λ c. search needs) (λ c. search needs) (λ c. search needs)
+    (λ c. search needs) (λ c. search needs) (λ c. search needs) (λ c. search needs) (λ c. search needs) (λ c. search needs) (λ c. search needs))

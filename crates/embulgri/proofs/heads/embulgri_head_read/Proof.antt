@@ -1,9 +1,9 @@
--- `embulgri::embulgri_head_read` meets its contract. Assumes nothing.
+-- `embulgri::heads::embulgri_head_read` meets its contract. Assumes nothing.
 use borrow.Author.Needs.{needs}
 use denote.Ref.{now}
 use Rattle.embulgri.proofs.Answers.{head-read, head-refused}
-use Rattle.embulgri.proofs.embulgri_head_read.Statement.{statement}
-use Rattle.embulgri.proofs.embulgri_head_read.Tie as tie
+use Rattle.embulgri.proofs.heads.embulgri_head_read.Statement.{statement}
+use Rattle.embulgri.proofs.heads.embulgri_head_read.Tie as tie
 
 returns : tie.Need-returns
 returns c =
