@@ -1,6 +1,6 @@
 /* Runs a program and tells, on standard error, its processor time in seconds (user and system) and its peak memory in KiB.
  *
- * usage: timed PROGRAM < FILE > FILE
+ * usage: timed PROGRAM [ARGUMENT ..] < FILE > FILE
  * Its own memory is small, as a program's peak is counted from before it takes the place of the one that started it.
  */
 #include <stdio.h>
@@ -17,7 +17,7 @@ int main(int argc, char **argv)
 {
     struct rusage used;
     int status;
-    if (argc != 2)
+    if (argc < 2)
         return 1;
     pid_t child = fork();
     if (child == 0) {

@@ -2,9 +2,9 @@
  *
  * The static library target/staticlib/libembulgri.a, built by `rt staticlib embulgri`, is for x86-64 Linux.
  *
- * Every function but embulgri_checksum and embulgri_start returns a refusal's number, 0 for none. On a refusal every
- * output stays as it was; of embulgri_feed's carry buffer the comment there says more. A pointer is never null, also
- * where its length is 0. Buffers do not overlap.
+ * Every function but embulgri_checksum, embulgri_start and embulgri_page_end returns a refusal's number, 0 for none. On
+ * a refusal every output stays as it was; of embulgri_feed's carry buffer and of the outputs of embulgri_feed_pages the
+ * comments there say more. A pointer is never null, also where its length is 0. Buffers do not overlap.
  */
 #ifndef EMBULGRI_H
 #define EMBULGRI_H
@@ -153,7 +153,7 @@ uint32_t embulgri_tags_write(const uint8_t *vendor, size_t vendor_n, const uint8
 uint32_t embulgri_clock_add(float *reading, uint64_t *count, uint64_t length);
 
 /* A reader of one stream is a state of 16 numbers. It may be copied, kept and fed again. Any 16 numbers are a legal
- * state; what embulgri_start, embulgri_open and embulgri_feed write is:
+ * state; what embulgri_start, embulgri_open, embulgri_feed and embulgri_feed_pages write is:
  *   0   how far the stream has come: 0 no page yet, 1 before the end of the comment header, 2 among the audio pages,
  *       3 opened part way with no page yet, 4 ended
  *   1   the unfinished packet: 0 none, 1 one that is held, 2 one that is dropped
@@ -219,6 +219,67 @@ uint32_t embulgri_open(const uint64_t fields[8], const uint8_t mapping[255], uin
 uint32_t embulgri_feed(uint64_t state[16], const uint8_t *page, size_t n, uint8_t *carry, size_t carry_n,
                        uint64_t *ends, size_t ends_n, uint64_t *lengths, size_t lengths_n, uint64_t *kept, size_t kept_n,
                        uint64_t *frames, size_t frames_n, uint64_t page_out[6]);
+
+/* Feeds the pages that lie one after the other in n bytes, each as embulgri_feed would. The packets of each page are
+ * listed after those of the pages before it. Before each page, the first too, it stops for the first of these that holds:
+ * fewer than 255 places are left in a list; the page is not whole in the bytes, as at their end; it is refused.
+ * run_out is stored however it stops:
+ *   0   how many bytes the accepted pages have; the next page starts at that place
+ *   1   how many pages were accepted
+ *   2   how many packets they list, each in a place of the four lists
+ *   3   why it stopped: 0 the next page is not whole, 1 fewer than 255 places are left, 2 the next page is refused
+ * The state is that of the reader after the accepted pages, also where a refusal comes after them. Where no page was
+ * accepted it stays as it was. The lists past the packets stay as they were. carry is as in embulgri_feed.
+ * To go on after 0, feed the bytes from that place on with more bytes after them; after 1, with free lists of 255 places
+ * or more. Bytes left at the end of the input that are no whole page are for embulgri_feed, which refuses them.
+ * Feeding many small pages so is faster than by embulgri_feed, since the tables of the checksum are made once a call.
+ *   1   the next page is whole and not short of places, and carry_n is below 61440
+ *   2 to 19  embulgri_feed would refuse the next page by this number
+ *   0   no page was refused
+ * Example: after embulgri_start, the two header pages of a stream, of 47 and 44 bytes, and 20 bytes of the next page
+ * store 91, 2, 0, 0. */
+uint32_t embulgri_feed_pages(uint64_t state[16], const uint8_t *bytes, size_t n, uint8_t *carry, size_t carry_n,
+                             uint64_t *ends, size_t ends_n, uint64_t *lengths, size_t lengths_n,
+                             uint64_t *kept, size_t kept_n, uint64_t *frames, size_t frames_n, uint64_t run_out[4]);
+
+/* The place after the page that starts at place at of n bytes, or 0 where the page is not whole there: fewer than 27
+ * bytes are left, or the bytes end before the page does. 27 bytes or more that do not begin with "OggS" count as a page
+ * that goes to the end of the bytes; feeding refuses it. It refuses nothing.
+ * Example: of "OggS" and 23 zero bytes, at 0 gives 27; of the first 26 of them it gives 0. */
+uint64_t embulgri_page_end(const uint8_t *bytes, size_t n, uint64_t at);
+
+/* ---- the lines that the program embulgri prints; these calls are for it, and may change with it */
+
+/* Puts the line above all packets of a listing into out from place at on. It returns the place after it, or at itself
+ * where the line does not fit. It refuses nothing.
+ * Example: at 0 with an out of 20 bytes returns 20. */
+uint64_t embulgri_list_first(uint8_t *out, size_t out_n, uint64_t at);
+
+/* Puts the line of a reader's totals, in the same way.
+ * Example: 16 zeros put "total kept=0 skipped=0 trimmed=0 hole=0" and a line feed. */
+uint64_t embulgri_list_total(const uint64_t state[16], uint8_t *out, size_t out_n, uint64_t at);
+
+/* Puts the line of a refusal, in the same way.
+ * Example: the number 4 and the page 2 put "refused 4 page 2" and a line feed. */
+uint64_t embulgri_list_refused(uint64_t number, uint64_t page, uint8_t *out, size_t out_n, uint64_t at);
+
+/* Puts the lines of packets into out from place at on, as long as 84 bytes are left, which is the longest line. The
+ * shortest of the four lists says how many packets there are. put: how many lines, and the place after them. It refuses
+ * nothing.
+ * Example: the end 960, the length 960, 1 frame and 648 kept put "960 960 1 648" and a line feed, and store 1 and 14. */
+void embulgri_list_entries(const uint64_t *ends, size_t ends_n, const uint64_t *lengths, size_t lengths_n,
+                           const uint64_t *frames, size_t frames_n, const uint64_t *kept, size_t kept_n,
+                           uint8_t *out, size_t out_n, uint64_t at, uint64_t put[2]);
+
+/* Writes all lines that show an identification header packet and a comment header packet to the start of out, and their
+ * length to *written.
+ *   12, 13  embulgri_head_read would refuse the first packet so
+ *   14  neither, and embulgri_tags_read would refuse the second
+ *   22  none of these, and the lines do not fit in out; out then has those pieces of them that fit one after the other
+ *   0   none of these; the lines and their length are stored
+ * Of packets of at most 61440 bytes the lines have less than 1048576. */
+uint32_t embulgri_header_lines(const uint8_t *head, size_t head_n, const uint8_t *tags, size_t tags_n,
+                               uint8_t *out, size_t out_n, uint64_t *written);
 
 #ifdef __cplusplus
 }

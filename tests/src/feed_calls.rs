@@ -1,6 +1,7 @@
 //! Feeding calls of the library that watch all that they are lent, and what the rules say that they
 //! leave.
 
+use crate::buffer_pages::{self, Fed};
 use crate::counted::Counted;
 use crate::feeding::{self, Lent, LIST, LISTS};
 use crate::ffi;
@@ -13,9 +14,11 @@ use crate::tags::LONGEST;
 use crate::writing::{assert_same_bytes, old_bytes, BEFORE, BEHIND};
 use std::fmt::Display;
 
-/// The most places that a call is lent of the carry buffer and of each list.
+/// The most places that a call is lent of the carry buffer and of each list: to feed a page, and to
+/// feed the pages of a buffer.
 pub const MOST_CARRY: usize = LONGEST + 320;
 pub const MOST_LIST: usize = 2 * LIST;
+pub const MOST_OF_PAGES: usize = 1_024;
 
 /// How much a call is lent: of the carry buffer, and of each list.
 #[derive(Clone, Copy, Debug, PartialEq, Eq)]
@@ -45,7 +48,7 @@ impl Memory {
         Memory {
             state: [0xa5a5_5a5a; NUMBERS + 2],
             carry: old_bytes(BEFORE + MOST_CARRY + BEHIND),
-            lists: marks.map(|mark| list(mark).take(MOST_LIST + 2).collect()),
+            lists: marks.map(|mark| list(mark).take(MOST_OF_PAGES + 2).collect()),
         }
     }
 
@@ -146,6 +149,14 @@ impl Feeder {
         &self.library.carry[BEFORE..][..MOST_CARRY]
     }
 
+    /// What so many first places of the lists hold: end stamps, lengths, kept counts and frames.
+    pub fn listed(&self, count: usize) -> [&[u64]; LISTS] {
+        self.library
+            .lists
+            .each_ref()
+            .map(|list| &list[1..][..count])
+    }
+
     /// Changes bytes of both carry buffers from a place on.
     pub fn put_in_carry(&mut self, place: usize, bytes: &[u8]) {
         for memory in [&mut self.library, &mut self.rules] {
@@ -181,10 +192,32 @@ impl Feeder {
             .map(Listing::numbers)
             .map_err(|&number| number);
         assert_eq!(found, Reading::by_rules(record), "page's record, {case}");
+        self.check_all(case);
+        told
+    }
+
+    /// Feeds the pages of a buffer to both readers, holds the library to the rules and gives what they
+    /// tell.
+    pub fn feed_pages(&mut self, bytes: &[u8], room: Room, case: impl Display) -> Fed {
+        let (state, lent) = self.library.lend(room);
+        let found = Reading::by_library(|out| ffi::feed_pages(state, bytes, lent, out));
+        let (numbers, mut lent) = self.rules.lend(room);
+        let told = buffer_pages::feed(numbers, bytes, &mut lent);
+        if let Some(stream) = &mut self.stream {
+            for page in told.accepted(bytes) {
+                stream.accept(&ogg::read(page).expect("a page"));
+            }
+        }
+        let expected = Reading::stored(told.answer(), told.numbers());
+        assert_eq!(found, expected, "record of the pages, {case}");
+        self.check_all(case);
+        told
+    }
+
+    fn check_all(&self, case: impl Display) {
         self.check_state(&case);
         assert_same_bytes(&self.library.carry, &self.rules.carry, &case);
         assert!(self.library.lists == self.rules.lists, "lists, {case}");
-        told
     }
 
     fn check_state(&self, case: impl Display) {

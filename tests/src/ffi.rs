@@ -70,6 +70,23 @@ extern "C" {
         frames_n: usize,
         page_out: *mut u64,
     ) -> u32;
+    fn embulgri_feed_pages(
+        state: *mut u64,
+        bytes: *const u8,
+        n: usize,
+        carry: *mut u8,
+        carry_n: usize,
+        ends: *mut u64,
+        ends_n: usize,
+        lengths: *mut u64,
+        lengths_n: usize,
+        kept: *mut u64,
+        kept_n: usize,
+        frames: *mut u64,
+        frames_n: usize,
+        out: *mut u64,
+    ) -> u32;
+    fn embulgri_page_end(bytes: *const u8, n: usize, at: u64) -> u64;
 }
 
 pub fn checksum(bytes: &[u8]) -> u32 {
@@ -237,4 +254,32 @@ pub fn feed(state: &mut [u64; NUMBERS], page: &[u8], lent: Lent, out: &mut [u64;
             out.as_mut_ptr(),
         )
     }
+}
+
+pub fn feed_pages(state: &mut [u64; NUMBERS], bytes: &[u8], lent: Lent, out: &mut [u64; 4]) -> u32 {
+    let [ends, lengths, kept, frames] = lent.lists;
+    // SAFETY: as for feeding one page.
+    unsafe {
+        embulgri_feed_pages(
+            state.as_mut_ptr(),
+            bytes.as_ptr(),
+            bytes.len(),
+            lent.carry.as_mut_ptr(),
+            lent.carry.len(),
+            ends.as_mut_ptr(),
+            ends.len(),
+            lengths.as_mut_ptr(),
+            lengths.len(),
+            kept.as_mut_ptr(),
+            kept.len(),
+            frames.as_mut_ptr(),
+            frames.len(),
+            out.as_mut_ptr(),
+        )
+    }
+}
+
+pub fn page_end(bytes: &[u8], at: u64) -> u64 {
+    // SAFETY: the pointer and the length are those of one slice.
+    unsafe { embulgri_page_end(bytes.as_ptr(), bytes.len(), at) }
 }

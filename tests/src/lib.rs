@@ -1,10 +1,14 @@
 //! What the tests of the Embulgri library share. The library is called over its C interface and
-//! held to an independent implementation, [`ogg`], [`opus`], [`head`], [`tags`], [`feeding`] and
-//! [`clock`], on inputs from a deterministic generator.
+//! held to an independent implementation, [`ogg`], [`opus`], [`head`], [`tags`], [`feeding`],
+//! [`buffer_pages`], [`lines`], [`header_text`] and [`clock`], on inputs from a deterministic
+//! generator.
 
 pub mod accepted;
+pub mod buffer_inputs;
+pub mod buffer_pages;
 pub mod by_hand;
 pub mod calls;
+pub mod changed_numbers;
 pub mod clock;
 pub mod clock_inputs;
 pub mod counted;
@@ -17,13 +21,17 @@ pub mod feed_faults;
 pub mod feed_headers;
 pub mod feeding;
 pub mod ffi;
+pub mod ffi_lines;
 pub mod head;
 pub mod head_damages;
 pub mod head_demands;
 pub mod head_inputs;
 pub mod head_mappings;
 pub mod head_matrix;
+pub mod header_text;
 pub mod inputs;
+pub mod line_calls;
+pub mod lines;
 pub mod ogg;
 pub mod opus;
 pub mod packet_classes;

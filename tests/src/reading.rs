@@ -39,6 +39,14 @@ impl Reading {
         reading
     }
 
+    /// What a call leaves that stores its numbers whatever its answer is.
+    pub fn stored<const N: usize>(answer: u32, numbers: [u64; N]) -> Reading {
+        Reading {
+            answer,
+            ..Reading::accepted(numbers)
+        }
+    }
+
     pub fn refused(answer: u32) -> Reading {
         Reading {
             answer,

@@ -10,6 +10,7 @@ import sys
 ROOT = pathlib.Path(__file__).resolve().parents[2]
 LIST = os.environ.get('LIST', str(ROOT / 'target/bin/list'))
 TAGS = os.environ.get('TAGS', str(ROOT / 'target/bin/tags'))
+EMBULGRI = os.environ.get('EMBULGRI', str(ROOT / 'target/cli/release/embulgri'))
 PLAIN = dict(os.environ, LC_ALL='C.UTF-8')
 
 

@@ -2,7 +2,7 @@
 use Prim.Native.Nat.{ℕ}
 use mathlib.Core.Path.{_≡_, refl, sym, ap, _∙_}
 use mathlib.Core.Bool.{true, false}
-use mathlib.Core.List.{List}
+use mathlib.Core.List.{List, [], _∷_}
 use Rattle.octets.specs.Octets.{Bytes}
 use Rattle.refusal.specs.declared.Refusal.{Refusal}
 use Rattle.refusal.specs.declared.Refusal.the-variants.{UnfitFields}
@@ -19,9 +19,13 @@ use Rattle.reader.specs.declared.StateOpened.the-variants.{Done, Refused as Not
 use Rattle.reader.specs.declared.StateFed.{StateFed}
 use Rattle.reader.specs.declared.StateFed.the-variants.{Accepted, Refused}
 use Rattle.reader.specs.Numbers.{toldOpenedIn, numbersOpened, StateOpenedIs, toldIn, numbersAfter, StateFedIs}
+use Rattle.feed_pages.specs.declared.StatePagesFed.{StatePagesFed}
+use Rattle.feed_pages.specs.Run.{Ended}
+use Rattle.feed_pages.specs.Answers.{toldStop}
+use Rattle.feed_pages.specs.State.{StateRun}
 use Rattle.head_numbers.specs.Numbers.{fitting, headFrom}
 use Rattle.embulgri.specs.Answers.{stored}
-use Rattle.embulgri.specs.Feeding.{openTold, OpenedIn, pageRecord, fedOf, FedIn}
+use Rattle.embulgri.specs.Feeding.{openTold, OpenedIn, pageRecord, fedOf, FedIn, whyNumber, refusalNumber, PagesIn}
 
 -- ---- opening part way
 
@@ -75,4 +79,17 @@ module _ (old : List ℕ) (page : Bytes) (m : Lent) {r : StateFed} {new : List �
     feeds = record { told = rw (n, numbers-positive why) (told-by e); lent = is .fed .lent };
     state = state-after;
     counts = rw (← told-by e);
+  }
+
+-- ---- the pages of a buffer
+
+module _ {e : Ended} {r : StatePagesFed} {old new : List ℕ} {after : Lent} (is : StateRun e r old new after) where
+  pub pages-fed : {number why : ℕ} → number ≡ refusalNumber (toldStop (r .stop)) → why ≡ whyNumber (toldStop (r .stop))
+      → PagesIn e number old new after (r .bytes ∷ r .pages ∷ r .packets ∷ why ∷ [])
+  pages-fed n w = record {
+    refusal = n ∙ ap refusalNumber (is .why);
+    counts = rw (w, is .bytes, is .pages, is .packets, is .why);
+    state = is .numbers;
+    reader = is .reader;
+    lent = is .lent;
   }

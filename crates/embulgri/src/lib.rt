@@ -1,6 +1,7 @@
 // The library for programs in C, Rust and Python: numbers and slices only. include/embulgri.h declares these functions, and
-// says when each refuses by which number. Each but embulgri_checksum and embulgri_start returns 0 and stores what it gives, or
-// returns the number of its refusal and stores nothing, but for the carry buffer of embulgri_feed (RULES.md, 14).
+// says when each refuses by which number. Each but embulgri_checksum, embulgri_start and embulgri_page_end returns 0 and stores
+// what it gives, or returns the number of its refusal and stores nothing, but for the carry buffer of embulgri_feed and the
+// outputs of embulgri_feed_pages (RULES.md, 14).
 ghost use mathlib.Core.Path.{_≡_};
 ghost use Rattle.page_crc.specs.Crc.{crc};
 ghost use Rattle.tags_layout.specs.Finding.{toldPart};
@@ -22,6 +23,7 @@ use tags_writer::TagsWritten;
 
 pub mod feeding;
 pub mod heads;
+pub mod lines;
 
 // Returns the checksum of the bytes as they are (RULES.md, 3; embulgri.h). It stores nothing and refuses nothing.
 // Example: of the one byte 0x01 it is 0x04c11db7.

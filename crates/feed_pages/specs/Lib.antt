@@ -1,4 +1,5 @@
 pub mod Run
 pub mod Feedings
 pub mod Answers
+pub mod State
 pub mod Statements

@@ -5,9 +5,11 @@ ghost use Rattle.page_crc_tables.specs.Table.{entryIn};
 ghost use Rattle.page_crc.specs.Sliced.{pageSliced};
 ghost use Rattle.stream.specs.Readings.{readings};
 ghost use Rattle.stream.specs.Lent.{lentOf, atEntry, atExit};
+ghost use Rattle.feed_numbers.specs.Numbers.{readerFrom};
 ghost use Rattle.reader.specs.Answers.{knownAs};
 ghost use Rattle.feed_pages.specs.Run.{Inside, turn as turnBy, feedPages};
 ghost use Rattle.feed_pages.specs.Answers.{reached, toldTurn, toldRun};
+ghost use Rattle.feed_pages.specs.State.{numbersReached, runFrom, StateRun};
 use page_end::End;
 use reader::Fed;
 use reader::Reader;
@@ -141,4 +143,55 @@ pub fn feed_pages(
 {
     let tables = page_crc_tables::table::tables();
     run(&tables, reader, buffer, carry, ends, lengths, kept, frames)
+}
+
+// ---- with a reader in sixteen numbers
+
+// The bytes of the pages accepted, how many they are, how many places of each list they filled, and why the run stopped.
+pub struct StatePagesFed {
+    pub bytes: usize,
+    pub pages: usize,
+    pub packets: usize,
+    pub stop: Stop,
+}
+
+// The numbers of the reader after so many pages; after none they stay.
+fn keep(pages: usize, reader: Reader, state: &mut [u64; 16])
+    ensures { λ _. ⌜ (now (state .exit) ≡ numbersReached pages (knownAs reader) (now (state .entry)))
+        × ((pages ≡ 0 → readerFrom (now (state .entry)) ≡ knownAs reader) → readerFrom (now (state .exit)) ≡ knownAs reader) ⌝ }
+{
+    if pages == 0 {
+        return;
+    }
+    *state = reader::state_of(reader);
+}
+
+// The same as `feed_pages` with a reader in sixteen numbers (RULES.md, 14). Where a page was accepted they are those of the
+// reader after the last such page, also where a refusal comes after it; else they stay as they were.
+// Example: sixteen zeros with the two header pages of a stream, and nothing after them, answer `bytes` of both, `pages` 2,
+// `packets` 0 and `Stop::Cut`, and get 2 in place 0.
+pub fn feed_state_pages(
+    state: &mut [u64; 16],
+    buffer: &[u8],
+    carry: &mut [u8],
+    ends: &mut [u64],
+    lengths: &mut [u64],
+    kept: &mut [u64],
+    frames: &mut [u64],
+) -> StatePagesFed
+    ensures { λ r. ⌜
+        StateRun (runFrom (now (state .entry)) (atEntry carry ends lengths kept frames) (now (buffer .entry)))
+        r (now (state .entry)) (now (state .exit)) (atExit carry ends lengths kept frames) ⌝ }
+{
+    let reader = reader::of_state(state);
+    let fed = feed_pages(reader, buffer, carry, ends, lengths, kept, frames);
+    let p = fed.progress;
+    let stop = fed.stop;
+    keep(p.pages, p.reader, state);
+    StatePagesFed {
+        bytes: p.bytes,
+        pages: p.pages,
+        packets: p.packets,
+        stop,
+    }
 }

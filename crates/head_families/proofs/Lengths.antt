@@ -4,7 +4,6 @@ use mathlib.Core.Bool.{Bool, true, false}
 use Prim.Native.Nat.{ℕ, _+_, _*_, _≤_}
 use native.Mathlib.Nat.{le-trans, mul-le-mul-left, mul-le-mul-right}
 use native.Mathlib.Omega.{arith}
-use borrow.Author.Tests.{eq-eqb, ne-eqb}
 use Rattle.head_families.specs.Families.{hasMatrix, matrixLength}
 
 -- entries, of so many decoded channels
@@ -12,15 +11,15 @@ pub entries-most : (n channels : ℕ) → n ≤ 510 → channels ≤ 255 → n *
 entries-most n channels h l = le-trans (mul-le-mul-right channels h) (mul-le-mul-left 510 l)
 
 module _ (family streams coupled channels : ℕ) where
-  pub no-matrix : (family ≡ 3 → ⊥) → matrixLength family streams coupled channels ≡ 0
+  pub no-matrix : hasMatrix family ≡ false → matrixLength family streams coupled channels ≡ 0
   unfolding matrixLength
-  no-matrix e = rw (ne-eqb family 3 e)
+  no-matrix e = rw e
 
   -- n and c are what the code computed
-  pub with-matrix : {n c : ℕ} → family ≡ 3 → n ≡ coupled + streams → c ≡ channels
+  pub with-matrix : {n c : ℕ} → hasMatrix family ≡ true → n ≡ coupled + streams → c ≡ channels
       → 2 * (n * c) ≡ matrixLength family streams coupled channels
   unfolding matrixLength
-  with-matrix e d q = rw (eq-eqb family 3 e, d, q)
+  with-matrix e d q = rw (e, d, q)
 
   pub matrix-most : streams ≤ 255 → coupled ≤ 255 → channels ≤ 255 → matrixLength family streams coupled channels ≤ 260100
   unfolding matrixLength

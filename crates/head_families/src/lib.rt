@@ -1,7 +1,7 @@
 // The channel mapping families of an identification header (RFC 7845, 5.1.1; RFC 8486, 3).
 ghost use mathlib.Core.Path.{_≡_};
 ghost use Rattle.head_families.specs.Families.{ambisonicChannels, allowedChannels};
-ghost use Rattle.head_families.specs.Families.{hasCounts, IndexCount, matrixLength};
+ghost use Rattle.head_families.specs.Families.{hasCounts, hasMatrix, IndexCount, matrixLength};
 ghost use Rattle.head_families.specs.Listed.{isListed};
 
 // The numbers of ambisonic channels, (1 + n)^2 + 2j (RFC 8486, 3.1).
@@ -46,12 +46,20 @@ pub fn has_counts(family: u8) -> bool
     family != 0
 }
 
+// Whether a family has a matrix in place of indices: family 3 (RULES.md, 4).
+// Example: `has_matrix(3)` is true, and `has_matrix(2)` is false.
+pub fn has_matrix(family: u8) -> bool
+    ensures { λ r. ⌜ r ≡ hasMatrix family ⌝ }
+{
+    family == 3
+}
+
 // How many indices a header has: one for each channel, and none in family 3, which has a matrix (RULES.md, 4).
 // Example: `index_count(2, 4)` is 4, and `index_count(3, 4)` is 0.
 pub fn index_count(family: u8, channels: u8) -> usize
     ensures { λ r. ⌜ IndexCount family channels r ⌝ }
 {
-    if family == 3 {
+    if has_matrix(family) {
         return 0;
     }
     octets::wide(channels)
@@ -63,7 +71,7 @@ pub fn index_count(family: u8, channels: u8) -> usize
 pub fn matrix_length(family: u8, streams: u8, coupled: u8, channels: u8) -> usize
     ensures { λ r. ⌜ r ≡ matrixLength family streams coupled channels ⌝ }
 {
-    if family != 3 {
+    if !has_matrix(family) {
         return 0;
     }
     let decoded = octets::wide(coupled) + octets::wide(streams);

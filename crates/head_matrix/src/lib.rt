@@ -51,8 +51,9 @@ pub fn matrix(b: &[u8]) -> &[u8]
     }
 }
 
-// Entry i of a matrix, the first being 0. 20: it has no such entry.
-fn entry_at(m: &[u8], i: usize) -> EntryRead
+// Entry i of the bytes of a matrix, the first being 0 (RULES.md, 4). 20: it has no such entry.
+// Example: `entry_at(&[0xff, 0x7f], 0)` gives `EntryRead::Entry(32767)`, and entry 1 is refused by 20.
+pub fn entry_at(m: &[u8], i: usize) -> EntryRead
     ensures { λ r. ⌜ toldEntry r ≡ entryAt (now (m .entry)) i ⌝ }
 {
     if i >= m.len() / 2 {

@@ -8,7 +8,7 @@ ghost use Rattle.stream.specs.Readings.{readings};
 ghost use Rattle.stream.specs.Lent.{Lent, atEntry, atExit};
 ghost use Rattle.stream.specs.Feed.{start as started, openPartWay, Fed as Outcome, FedIs, Feeds, toldPage};
 ghost use Rattle.stream.specs.Feedings.{heldOf};
-ghost use Rattle.feed_numbers.specs.Numbers.{StandFor};
+ghost use Rattle.feed_numbers.specs.Numbers.{readerFrom, StandFor};
 ghost use Rattle.reader.specs.Answers.{knownAs, toldOpened, toldFed, totalsOf};
 ghost use Rattle.reader.specs.Numbers.{StateOpenedIs, StateFedIs, StateFeeds};
 use feed_start::CoreOpened;
@@ -20,7 +20,7 @@ use stream::Counts;
 use stream::PageFed;
 use stream::Tally;
 
-// A reader comes only from starting, opening and feeding.
+// A reader comes only from starting, opening, feeding and sixteen numbers.
 pub struct Reader {
     core: Core,
     tally: Tally,
@@ -212,6 +212,25 @@ pub enum StateFed {
     Accepted(Counts),
     // 1 to 19
     Refused(Refusal),
+}
+
+// The reader that the numbers represent (RULES.md, 14). It refuses nothing.
+// Example: of sixteen zeros it is the reader of `start()`, and with 9 in place 0 it is one that has ended.
+pub fn of_state(state: &[u64; 16]) -> Reader
+    ensures { λ r. ⌜ knownAs r ≡ readerFrom (now (state .entry)) ⌝ }
+{
+    Reader {
+        core: feed_numbers::core_from(state),
+        tally: feed_numbers::tally_from(state),
+    }
+}
+
+// The numbers of a reader, which represent it (RULES.md, 14). It refuses nothing.
+// Example: of `start()` they are sixteen zeros.
+pub fn state_of(reader: Reader) -> [u64; 16]
+    ensures { λ r. ⌜ StandFor r (knownAs reader) ⌝ }
+{
+    feed_numbers::numbers_of(reader.core, reader.tally)
 }
 
 // The numbers of a reader just started (RULES.md, 14). It refuses nothing. Example: they are sixteen zeros.

@@ -1,0 +1,38 @@
+//! How following an input ends.
+
+use crate::input::Input;
+use crate::trouble::Trouble;
+use embulgri::reader::Reader;
+
+/// How a task ends that met no trouble.
+pub enum Ending {
+    /// It is done.
+    Done,
+    /// This page, which starts at this byte of the input, was refused by this number; the line that
+    /// says so is printed.
+    Refused { number: u32, page: u64, at: u64 },
+}
+
+/// What stops feeding before the end: a refusal, by its number, or trouble.
+pub enum Stopped {
+    Refused(u32),
+    Trouble(Trouble),
+}
+
+impl From<Trouble> for Stopped {
+    fn from(trouble: Trouble) -> Stopped {
+        Stopped::Trouble(trouble)
+    }
+}
+
+/// Feeds the bytes that the end of an input has left, which are no whole page: they are refused.
+/// Where none are left, nothing is fed.
+pub fn feed_rest(input: &Input, reader: &mut Reader) -> Result<(), Stopped> {
+    if input.bytes().is_empty() {
+        return Ok(());
+    }
+    match reader.feed(input.bytes()) {
+        Err(number) => Err(Stopped::Refused(number)),
+        Ok(()) => Err(Trouble::unforeseen("it accepted what is no whole page").into()),
+    }
+}

@@ -1,0 +1,71 @@
+//! The functions of include/embulgri.h that the program calls, as C has them.
+
+extern "C" {
+    pub fn embulgri_start(state: *mut u64);
+    pub fn embulgri_page_end(bytes: *const u8, n: usize, at: u64) -> u64;
+    pub fn embulgri_page_read(page: *const u8, n: usize, out: *mut u64) -> u32;
+    pub fn embulgri_feed(
+        state: *mut u64,
+        page: *const u8,
+        n: usize,
+        carry: *mut u8,
+        carry_n: usize,
+        ends: *mut u64,
+        ends_n: usize,
+        lengths: *mut u64,
+        lengths_n: usize,
+        kept: *mut u64,
+        kept_n: usize,
+        frames: *mut u64,
+        frames_n: usize,
+        page_out: *mut u64,
+    ) -> u32;
+    pub fn embulgri_feed_pages(
+        state: *mut u64,
+        bytes: *const u8,
+        n: usize,
+        carry: *mut u8,
+        carry_n: usize,
+        ends: *mut u64,
+        ends_n: usize,
+        lengths: *mut u64,
+        lengths_n: usize,
+        kept: *mut u64,
+        kept_n: usize,
+        frames: *mut u64,
+        frames_n: usize,
+        out: *mut u64,
+    ) -> u32;
+    pub fn embulgri_list_first(out: *mut u8, out_n: usize, at: u64) -> u64;
+    pub fn embulgri_list_total(state: *const u64, out: *mut u8, out_n: usize, at: u64) -> u64;
+    pub fn embulgri_list_refused(
+        number: u64,
+        page: u64,
+        out: *mut u8,
+        out_n: usize,
+        at: u64,
+    ) -> u64;
+    pub fn embulgri_list_entries(
+        ends: *const u64,
+        ends_n: usize,
+        lengths: *const u64,
+        lengths_n: usize,
+        frames: *const u64,
+        frames_n: usize,
+        kept: *const u64,
+        kept_n: usize,
+        out: *mut u8,
+        out_n: usize,
+        at: u64,
+        put: *mut u64,
+    );
+    pub fn embulgri_header_lines(
+        head: *const u8,
+        head_n: usize,
+        tags: *const u8,
+        tags_n: usize,
+        out: *mut u8,
+        out_n: usize,
+        written: *mut u64,
+    ) -> u32;
+}

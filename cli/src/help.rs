@@ -1,0 +1,80 @@
+//! The texts of `--help` and `--version`.
+
+/// All that the program can be asked for.
+pub const ALL: &str = "\
+embulgri reads Ogg Opus recordings, to the sample.
+
+usage: embulgri list [FILE]   one line a packet: its end stamp, its length, its
+                              frames and how much of it is kept
+       embulgri tags [FILE]   the identification header, the vendor and the
+                              comments
+       embulgri explain N     what the number of a refusal means
+       embulgri --help        this text; embulgri list --help says more of list,
+                              and so on
+       embulgri --version     the version
+
+Without FILE, or where it is \"-\", standard input is read. After \"--\" no word
+is taken for an option.
+
+exit status:
+  0  done
+  2  a page was refused: the last line is \"refused N page K\", and standard
+     error says what that means
+  3  trouble: wrong arguments, or reading or writing failed; standard error
+     says which
+";
+
+/// What `list` prints.
+pub const LIST: &str = "\
+usage: embulgri list [FILE]
+
+Lists the packets of an Ogg Opus recording. The first line names the columns,
+and one line follows for each packet:
+  end     the stamp of its last sample, at 48,000 samples a second
+  dur     its length in samples
+  frames  the number of its frames
+  kept    how many of its samples are neither skipped at the start of the
+          recording nor trimmed at its end
+The last line is \"total kept=A skipped=B trimmed=C hole=D\", in samples, or,
+after a page that breaks a rule, \"refused N page K\". Pages and bytes are
+counted from 0.
+
+Without FILE, or where it is \"-\", standard input is read. A file is mapped: it
+may grow meanwhile, but what it has must stay as it is.
+
+exit status: 0 listed whole, 2 a page was refused, 3 trouble
+";
+
+/// What `tags` prints.
+pub const TAGS: &str = "\
+usage: embulgri tags [FILE]
+
+Shows the two headers of an Ogg Opus recording: the fields of the
+identification header by their names, the vendor, the number of comments, and
+each comment. Texts are shown escaped: \\\\ is a backslash, and \\xHH a byte that
+is no part of a character, or one of a character that is not shown. After a
+gain, and a tab, come its decibels. Where a page of the headers breaks a rule,
+\"refused N page K\" is the only line. Pages and bytes are counted from 0.
+
+Without FILE, or where it is \"-\", standard input is read. A file is mapped: it
+may grow meanwhile, but what it has must stay as it is.
+
+exit status: 0 shown, 2 a page was refused, 3 trouble, also where the input
+ends before both headers are complete
+";
+
+/// What `explain` prints.
+pub const EXPLAIN: &str = "\
+usage: embulgri explain N
+
+Says what the number N of \"refused N page K\" means. There are numbers from 1 to
+23, and 30. Those from 2 to 18 end a listing; the others are told to programs
+that call the library.
+
+exit status: 0 said, 3 there is no such number
+";
+
+/// The program's name and version.
+pub fn version() -> String {
+    format!("embulgri {}\n", env!("CARGO_PKG_VERSION"))
+}

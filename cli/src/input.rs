@@ -1,0 +1,144 @@
+//! The input, mapped or read in pieces: in either way, bytes that are not fed yet.
+
+use crate::mapping::Mapping;
+use crate::trouble::Trouble;
+use std::ffi::OsString;
+use std::fs::File;
+use std::io::{ErrorKind, Read, Seek, SeekFrom};
+use std::mem::ManuallyDrop;
+use std::os::fd::FromRawFd;
+
+/// What is read of an input that is not mapped: a page, which has at most 65,307 bytes, and more.
+const ROOM: usize = 262_144;
+
+/// The bytes from `from` to `to` of what is mapped, or of the buffer, are not fed yet.
+pub struct Input {
+    name: String,
+    source: Source,
+    from: usize,
+    to: usize,
+    /// The bytes before place `from` that were fed.
+    fed: u64,
+}
+
+enum Source {
+    Mapped(Mapping),
+    Pieces {
+        file: ManuallyDrop<File>,
+        buffer: Vec<u8>,
+        ended: bool,
+    },
+}
+
+impl Input {
+    /// The file with this name, or standard input. Nothing is read yet.
+    pub fn open(name: Option<OsString>) -> Result<Input, Trouble> {
+        let Some(path) = name else {
+            // SAFETY: descriptor 0 is never closed here, since what is not dropped is not closed;
+            // where it was closed from the start, reading from it fails and does no more.
+            let file = unsafe { File::from_raw_fd(0) };
+            return Ok(Input::of("standard input".into(), file));
+        };
+        let name = format!("{path:?}");
+        match File::open(&path) {
+            Ok(file) => Ok(Input::of(name, file)),
+            Err(why) => Err(Trouble::reading(&name, &why)),
+        }
+    }
+
+    /// An input from the file's place on. The file is not closed before the program ends, since
+    /// standard input is not the program's to close.
+    fn of(name: String, file: File) -> Input {
+        let file = ManuallyDrop::new(file);
+        let (source, from, to) = match mapped(&file) {
+            Some((mapping, from)) => {
+                let to = mapping.bytes().len();
+                (Source::Mapped(mapping), from, to)
+            }
+            None => (pieces(file), 0, 0),
+        };
+        Input {
+            name,
+            source,
+            from,
+            to,
+            fed: 0,
+        }
+    }
+
+    /// The input's name, for messages.
+    pub fn name(&self) -> &str {
+        &self.name
+    }
+
+    /// The bytes at hand that are not fed yet.
+    pub fn bytes(&self) -> &[u8] {
+        let all = match &self.source {
+            Source::Mapped(mapping) => mapping.bytes(),
+            Source::Pieces { buffer, .. } => buffer,
+        };
+        &all[self.from..self.to]
+    }
+
+    /// Where they start in the input.
+    pub fn place(&self) -> u64 {
+        self.fed
+    }
+
+    /// Takes the first n of them for fed.
+    pub fn take(&mut self, n: usize) {
+        self.from += n;
+        self.fed += n as u64;
+    }
+
+    /// Gets more bytes after those at hand; false where the input has ended.
+    pub fn read_more(&mut self) -> Result<bool, Trouble> {
+        let Source::Pieces {
+            file,
+            buffer,
+            ended,
+        } = &mut self.source
+        else {
+            return Ok(false);
+        };
+        buffer.copy_within(self.from..self.to, 0);
+        (self.from, self.to) = (0, self.to - self.from);
+        while !*ended {
+            match file.read(&mut buffer[self.to..]) {
+                Ok(0) => *ended = true,
+                Ok(n) => {
+                    self.to += n;
+                    return Ok(true);
+                }
+                Err(why) if why.kind() == ErrorKind::Interrupted => {}
+                Err(why) => return Err(Trouble::reading(&self.name, &why)),
+            }
+        }
+        Ok(false)
+    }
+}
+
+/// A file that is read in pieces.
+fn pieces(file: ManuallyDrop<File>) -> Source {
+    Source::Pieces {
+        file,
+        buffer: vec![0; ROOM],
+        ended: false,
+    }
+}
+
+/// A file as it is mapped, and its place, which is moved to its end as reading it would; none where
+/// it is not a regular file with bytes from its place on, or cannot be mapped.
+fn mapped(mut file: &File) -> Option<(Mapping, usize)> {
+    let told = file.metadata().ok()?;
+    if !told.is_file() {
+        return None;
+    }
+    let place = file.stream_position().ok()?;
+    if place >= told.len() {
+        return None;
+    }
+    let mapping = Mapping::of(file, usize::try_from(told.len()).ok()?)?;
+    file.seek(SeekFrom::Start(told.len())).ok()?;
+    Some((mapping, place as usize))
+}

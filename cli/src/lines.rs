@@ -1,0 +1,87 @@
+//! The lines that are printed, put into lent memory. Each function that puts one line at a place
+//! gives the place after it, or the same place where the line does not fit.
+
+use crate::reader::Reader;
+use crate::{accepted, ffi};
+use std::ops::Range;
+
+/// How many lines of packets were put, and the place after them.
+pub struct Put {
+    pub count: usize,
+    pub at: usize,
+}
+
+/// The line above all packets.
+pub fn put_first(out: &mut [u8], at: usize) -> usize {
+    // SAFETY: the pointer and the length are those of one slice.
+    unsafe { ffi::embulgri_list_first(out.as_mut_ptr(), out.len(), at as u64) as usize }
+}
+
+/// The last line of a listing that was not refused: the totals of its reader.
+pub fn put_total(reader: &Reader, out: &mut [u8], at: usize) -> usize {
+    let state = reader.state.as_ptr();
+    // SAFETY: `state` has the sixteen places that are read; the other pointer and the length are
+    // those of one slice, which is borrowed mutably and so overlaps nothing.
+    unsafe { ffi::embulgri_list_total(state, out.as_mut_ptr(), out.len(), at as u64) as usize }
+}
+
+/// The last line after a refusal of a page, by its number.
+pub fn put_refused(number: u32, page: u64, out: &mut [u8], at: usize) -> usize {
+    let number = u64::from(number);
+    // SAFETY: the pointer and the length are those of one slice.
+    unsafe {
+        ffi::embulgri_list_refused(number, page, out.as_mut_ptr(), out.len(), at as u64) as usize
+    }
+}
+
+/// The lines of the packets in these places of a reader's lists, as many as surely fit.
+pub fn put_entries(reader: &Reader, places: Range<usize>, out: &mut [u8], at: usize) -> Put {
+    let ends = &reader.ends[places.clone()];
+    let lengths = &reader.lengths[places.clone()];
+    let frames = &reader.frames[places.clone()];
+    let kept = &reader.kept[places];
+    let mut put = [0; 2];
+    // SAFETY: each pointer goes with the length of its own slice, and `put` has the two places that
+    // are written; `out` and `put` are borrowed mutably, so they overlap nothing.
+    unsafe {
+        ffi::embulgri_list_entries(
+            ends.as_ptr(),
+            ends.len(),
+            lengths.as_ptr(),
+            lengths.len(),
+            frames.as_ptr(),
+            frames.len(),
+            kept.as_ptr(),
+            kept.len(),
+            out.as_mut_ptr(),
+            out.len(),
+            at as u64,
+            put.as_mut_ptr(),
+        );
+    }
+    Put {
+        count: put[0] as usize,
+        at: put[1] as usize,
+    }
+}
+
+/// All lines of an identification header and a comment header, from the start of `out` on. Gives
+/// their length, or the number of the refusal.
+pub fn put_headers(head: &[u8], tags: &[u8], out: &mut [u8]) -> Result<usize, u32> {
+    let mut written = 0;
+    // SAFETY: each pointer goes with the length of its own slice, and `written` is the one place
+    // that is written beside `out`; both are borrowed mutably, so they overlap nothing.
+    let number = unsafe {
+        ffi::embulgri_header_lines(
+            head.as_ptr(),
+            head.len(),
+            tags.as_ptr(),
+            tags.len(),
+            out.as_mut_ptr(),
+            out.len(),
+            &mut written,
+        )
+    };
+    accepted(number)?;
+    Ok(written as usize)
+}

@@ -1,0 +1,71 @@
+//! The program `embulgri`. It maps or reads its input, lends memory to the verified library, and
+//! prints what the library's functions put there; what is accepted, refused and printed of a
+//! recording is decided by these alone.
+//!
+//! It has no `main` of Rust's own: that would open /dev/null in place of a standard stream that is
+//! closed, so that a listing could be lost with status 0.
+#![no_main]
+
+mod arguments;
+mod ending;
+mod help;
+mod input;
+mod list;
+mod mapping;
+mod meanings;
+mod output;
+mod signals;
+mod tags;
+mod trouble;
+
+use crate::arguments::Task;
+use crate::ending::Ending;
+use crate::input::Input;
+use crate::trouble::{say, show, Trouble};
+use std::ffi::{c_char, c_int};
+
+/// Does what the arguments ask for, and gives the exit status. The C library calls it; Rust's own
+/// library has the arguments from there already.
+#[no_mangle]
+pub extern "C" fn main(_count: c_int, _words: *const *const c_char) -> c_int {
+    signals::prepare();
+    let words: Vec<_> = std::env::args_os().skip(1).collect();
+    match arguments::task_of(&words).and_then(run) {
+        Ok(status) => status,
+        Err(trouble) => {
+            say(trouble);
+            3
+        }
+    }
+}
+
+/// Does a task, and gives the exit status.
+fn run(task: Task) -> Result<c_int, Trouble> {
+    match task {
+        Task::List(name) => follow(Input::open(name)?, list::list),
+        Task::Tags(name) => follow(Input::open(name)?, tags::tags),
+        Task::Print(text) => output::print(&text).map(|()| 0),
+        Task::Usage => {
+            show(help::ALL);
+            Ok(3)
+        }
+    }
+}
+
+/// Follows an input, and says in words why it was refused.
+fn follow(
+    mut input: Input,
+    task: fn(&mut Input) -> Result<Ending, Trouble>,
+) -> Result<c_int, Trouble> {
+    match task(&mut input)? {
+        Ending::Done => Ok(0),
+        Ending::Refused { number, page, at } => {
+            let name = input.name();
+            let meaning = meanings::meaning_of(number);
+            say(format_args!(
+                "{name}: page {page}, which starts at byte {at}, is refused by {number}: {meaning}"
+            ));
+            Ok(2)
+        }
+    }
+}

@@ -1,0 +1,87 @@
+//! Standard output, through one buffer of a fixed size.
+
+use crate::ending::Ending;
+use crate::trouble::Trouble;
+use embulgri::lines;
+use embulgri::reader::Reader;
+use std::fs::File;
+use std::io::Write;
+use std::mem::ManuallyDrop;
+use std::os::fd::FromRawFd;
+
+/// Lines that wait to be written, and what takes them.
+pub struct Output {
+    room: Vec<u8>,
+    filled: usize,
+    file: ManuallyDrop<File>,
+}
+
+impl Output {
+    /// Standard output with room for so many bytes. Its failures are told, also where it is closed.
+    pub fn with_room(n: usize) -> Output {
+        // SAFETY: descriptor 1 is never closed here, since what is not dropped is not closed; where
+        // it was closed from the start, writing to it fails and does no more.
+        let file = unsafe { File::from_raw_fd(1) };
+        Output {
+            room: vec![0; n],
+            filled: 0,
+            file: ManuallyDrop::new(file),
+        }
+    }
+
+    /// Lets a function of the library fill all of its room, from the start. It gives the length, or
+    /// a refusal that the library promises not to give.
+    pub fn fill(&mut self, put: impl Fn(&mut [u8]) -> Result<usize, u32>) -> Result<(), Trouble> {
+        self.filled = put(&mut self.room).map_err(Trouble::unforeseen)?;
+        Ok(())
+    }
+
+    /// Puts a line. Where it does not fit after the others, those are written first.
+    pub fn put(&mut self, line: impl Fn(&mut [u8], usize) -> usize) -> Result<(), Trouble> {
+        let mut at = line(&mut self.room, self.filled);
+        if at == self.filled {
+            self.write()?;
+            at = line(&mut self.room, 0);
+        }
+        self.filled = at;
+        Ok(())
+    }
+
+    /// Puts the lines of the first packets of a reader's lists, so many of them.
+    pub fn put_entries(&mut self, reader: &Reader, packets: usize) -> Result<(), Trouble> {
+        let mut listed = 0;
+        while listed < packets {
+            let put = lines::put_entries(reader, listed..packets, &mut self.room, self.filled);
+            listed += put.count;
+            self.filled = put.at;
+            if listed < packets {
+                self.write()?;
+            }
+        }
+        Ok(())
+    }
+
+    /// Puts the line of a refusal, and writes what waits.
+    pub fn end_refused(&mut self, number: u32, page: u64, at: u64) -> Result<Ending, Trouble> {
+        self.put(|out, place| lines::put_refused(number, page, out, place))?;
+        self.write()?;
+        Ok(Ending::Refused { number, page, at })
+    }
+
+    /// Writes what waits.
+    pub fn write(&mut self) -> Result<(), Trouble> {
+        let waiting = &self.room[..self.filled];
+        self.filled = 0;
+        self.file
+            .write_all(waiting)
+            .map_err(|why| Trouble::writing(&why))
+    }
+}
+
+/// Writes a text to standard output.
+pub fn print(text: &str) -> Result<(), Trouble> {
+    let mut output = Output::with_room(text.len());
+    output.room.copy_from_slice(text.as_bytes());
+    output.filled = text.len();
+    output.write()
+}

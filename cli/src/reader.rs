@@ -1,0 +1,132 @@
+//! A reader of one stream, with the memory that is lent to it.
+
+use crate::{accepted, ffi, PACKET_MAX, PLACES};
+
+/// Follows a stream page by page. What it tells of packets is in its lists until it is fed again.
+pub struct Reader {
+    pub(crate) state: [u64; 16],
+    carry: Vec<u8>,
+    pub(crate) ends: Vec<u64>,
+    pub(crate) lengths: Vec<u64>,
+    pub(crate) kept: Vec<u64>,
+    pub(crate) frames: Vec<u64>,
+}
+
+/// Why feeding the pages of a buffer stopped.
+pub enum Stop {
+    /// The next page is not whole in the buffer.
+    Cut,
+    /// The lists have no room for another page.
+    Full,
+    /// The next page is refused by this number.
+    Refused(u32),
+}
+
+/// How far feeding the pages of a buffer came: the bytes and the number of the pages accepted, the
+/// packets listed, and why it stopped.
+pub struct Fed {
+    pub bytes: usize,
+    pub pages: u64,
+    pub packets: usize,
+    pub stop: Stop,
+}
+
+impl Reader {
+    /// A reader that waits for the first page of a stream.
+    pub fn start() -> Reader {
+        let mut state = [0; 16];
+        // SAFETY: `state` has the sixteen places that are written.
+        unsafe { ffi::embulgri_start(state.as_mut_ptr()) };
+        Reader {
+            state,
+            carry: vec![0; PACKET_MAX],
+            ends: vec![0; PLACES],
+            lengths: vec![0; PLACES],
+            kept: vec![0; PLACES],
+            frames: vec![0; PLACES],
+        }
+    }
+
+    /// Whether both headers are complete.
+    pub fn has_headers(&self) -> bool {
+        matches!(self.state[0], 2 | 4)
+    }
+
+    /// How many bytes of an unfinished packet are held.
+    pub fn held(&self) -> usize {
+        self.state[2] as usize
+    }
+
+    /// The first n bytes of the carry buffer: the comment header, on the page that completes it.
+    pub fn carried(&self, n: usize) -> &[u8] {
+        &self.carry[..n.min(self.carry.len())]
+    }
+
+    /// Feeds one page, or bytes that are none; or gives the number of the refusal.
+    pub fn feed(&mut self, page: &[u8]) -> Result<(), u32> {
+        let mut counts = [0; 6];
+        // SAFETY: each pointer goes with the length of its own slice, and `state` and `counts` have
+        // the places that are written; all but the page are borrowed mutably, so they overlap
+        // nothing.
+        let number = unsafe {
+            ffi::embulgri_feed(
+                self.state.as_mut_ptr(),
+                page.as_ptr(),
+                page.len(),
+                self.carry.as_mut_ptr(),
+                self.carry.len(),
+                self.ends.as_mut_ptr(),
+                self.ends.len(),
+                self.lengths.as_mut_ptr(),
+                self.lengths.len(),
+                self.kept.as_mut_ptr(),
+                self.kept.len(),
+                self.frames.as_mut_ptr(),
+                self.frames.len(),
+                counts.as_mut_ptr(),
+            )
+        };
+        accepted(number)
+    }
+
+    /// Feeds the pages of a buffer, until one is cut or refused or the lists are full.
+    pub fn feed_pages(&mut self, bytes: &[u8]) -> Fed {
+        let mut out = [0; 4];
+        // SAFETY: each pointer goes with the length of its own slice, and `state` and `out` have
+        // the places that are written; all but the bytes are borrowed mutably, so they overlap
+        // nothing.
+        let number = unsafe {
+            ffi::embulgri_feed_pages(
+                self.state.as_mut_ptr(),
+                bytes.as_ptr(),
+                bytes.len(),
+                self.carry.as_mut_ptr(),
+                self.carry.len(),
+                self.ends.as_mut_ptr(),
+                self.ends.len(),
+                self.lengths.as_mut_ptr(),
+                self.lengths.len(),
+                self.kept.as_mut_ptr(),
+                self.kept.len(),
+                self.frames.as_mut_ptr(),
+                self.frames.len(),
+                out.as_mut_ptr(),
+            )
+        };
+        Fed {
+            bytes: out[0] as usize,
+            pages: out[1],
+            packets: out[2] as usize,
+            stop: stop_of(out[3], number),
+        }
+    }
+}
+
+/// Why it stopped, by the number that says so and that of the refusal.
+fn stop_of(why: u64, number: u32) -> Stop {
+    match why {
+        0 => Stop::Cut,
+        1 => Stop::Full,
+        _ => Stop::Refused(number),
+    }
+}

@@ -1,0 +1,45 @@
+//! What ends the program with status 3, and how it speaks on standard error.
+
+use std::fmt;
+use std::io::{self, Write};
+
+/// A message for standard error.
+pub struct Trouble(String);
+
+impl Trouble {
+    /// With this message.
+    pub fn new(message: impl Into<String>) -> Trouble {
+        Trouble(message.into())
+    }
+
+    /// Of an input that cannot be opened or read.
+    pub fn reading(name: &str, why: &io::Error) -> Trouble {
+        Trouble(format!("cannot read {name}: {why}"))
+    }
+
+    /// Of standard output that takes no more.
+    pub fn writing(why: &io::Error) -> Trouble {
+        Trouble(format!("cannot write: {why}"))
+    }
+
+    /// Of an answer that the library promises not to give.
+    pub fn unforeseen(answer: impl fmt::Display) -> Trouble {
+        Trouble(format!("the library breaks a promise: {answer}"))
+    }
+}
+
+impl fmt::Display for Trouble {
+    fn fmt(&self, f: &mut fmt::Formatter) -> fmt::Result {
+        f.write_str(&self.0)
+    }
+}
+
+/// Says a message on standard error.
+pub fn say(message: impl fmt::Display) {
+    show(&format!("embulgri: {message}\n"));
+}
+
+/// Shows a text on standard error. Where that fails, there is nothing left to say it to.
+pub fn show(text: &str) {
+    let _ = io::stderr().write_all(text.as_bytes());
+}
