@@ -2,9 +2,10 @@
  *
  * The static library target/staticlib/libembulgri.a, built by `rt staticlib embulgri`, is for x86-64 Linux.
  *
- * Every function but embulgri_checksum, embulgri_start and embulgri_page_end returns a refusal's number, 0 for none. On
- * a refusal every output stays as it was; of embulgri_feed's carry buffer and of the outputs of embulgri_feed_pages the
- * comments there say more. A pointer is never null, also where its length is 0. Buffers do not overlap.
+ * Every function but embulgri_checksum, embulgri_start, embulgri_page_end and those that begin with embulgri_list returns
+ * a refusal's number, 0 for none. On a refusal every output stays as it was; of embulgri_feed's carry buffer, of the
+ * outputs of embulgri_feed_pages and of that of embulgri_header_lines the comments there say more. A pointer is never
+ * null, also where its length is 0. Buffers do not overlap.
  */
 #ifndef EMBULGRI_H
 #define EMBULGRI_H

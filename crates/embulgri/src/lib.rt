@@ -1,7 +1,7 @@
 // The library for programs in C, Rust and Python: numbers and slices only. include/embulgri.h declares these functions, and
-// says when each refuses by which number. Each but embulgri_checksum, embulgri_start and embulgri_page_end returns 0 and stores
-// what it gives, or returns the number of its refusal and stores nothing, but for the carry buffer of embulgri_feed and the
-// outputs of embulgri_feed_pages (RULES.md, 14).
+// says when each refuses by which number. Each but embulgri_checksum, embulgri_start, embulgri_page_end and those that begin with
+// embulgri_list returns 0 and stores what it gives, or returns the number of its refusal and stores nothing, but for the carry
+// buffer of embulgri_feed and the outputs of embulgri_feed_pages and embulgri_header_lines (RULES.md, 14).
 ghost use mathlib.Core.Path.{_≡_};
 ghost use Rattle.page_crc.specs.Crc.{crc};
 ghost use Rattle.tags_layout.specs.Finding.{toldPart};
