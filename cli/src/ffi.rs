@@ -1,4 +1,5 @@
-//! The functions of include/embulgri.h that the program calls, as C has them.
+//! The functions of include/embulgri.h that the program calls, as C has them; `embulgri_program_feed`
+//! is `embulgri_feed_pages` in a library of its own.
 
 extern "C" {
     pub fn embulgri_start(state: *mut u64);
@@ -20,7 +21,7 @@ extern "C" {
         frames_n: usize,
         page_out: *mut u64,
     ) -> u32;
-    pub fn embulgri_feed_pages(
+    pub fn embulgri_program_feed(
         state: *mut u64,
         bytes: *const u8,
         n: usize,

@@ -96,7 +96,7 @@ impl Reader {
         // the places that are written; all but the bytes are borrowed mutably, so they overlap
         // nothing.
         let number = unsafe {
-            ffi::embulgri_feed_pages(
+            ffi::embulgri_program_feed(
                 self.state.as_mut_ptr(),
                 bytes.as_ptr(),
                 bytes.len(),

@@ -1,11 +1,11 @@
 #!/usr/bin/env python3
-"""Holds `list` and `tags` to ffprobe, to opusinfo and to the listing in this directory, on Ogg Opus files.
+"""Holds `list`, `tags` and `embulgri` to ffprobe, to opusinfo and to the listing in this directory, on Ogg Opus files.
 
 usage: tests/streams/compare.py [--without-ffprobe | --refused] NAME=DIRECTORY ..
 Takes every Ogg Opus file below each directory, told by its first bytes. Prints one line for each name, and each
 difference with the rule that explains it. A difference that no rule explains is printed with DIFFERS and makes the
-status 1. With --refused every stream is one that must be refused. LIST and TAGS are the programs, target/bin/list and
-target/bin/tags if not set.
+status 1. With --refused every stream is one that must be refused. LIST, TAGS and EMBULGRI are the programs,
+target/bin/list, target/bin/tags and target/cli/release/embulgri if not set.
 """
 import argparse
 import collections
@@ -16,7 +16,7 @@ import sys
 
 from comments import tags_lines
 from listing import listing, read
-from programs import LIST, TAGS, ffprobe, need, opusinfo, run_on
+from programs import EMBULGRI, LIST, TAGS, ffprobe, need, opusinfo, run, run_on
 
 
 class Findings:
@@ -169,6 +169,15 @@ def compare_opusinfo(path, reader, findings):
                                f'trimmed={reader.trimmed}')
 
 
+def compare_embulgri(path, word, wanted, refused, findings):
+    """What `embulgri` prints of a file, and its status; a message goes with a refusal alone."""
+    done = run(EMBULGRI, word, path)
+    if done.stdout != wanted:
+        findings.fault(path, f'embulgri {word}: line ' + first_difference(done.stdout.split(b'\n'), wanted.split(b'\n')))
+    if (done.returncode, bool(done.stderr)) != (2 if refused else 0, refused):
+        findings.fault(path, f'embulgri {word}: status {done.returncode}, {done.stderr!r}')
+
+
 def compare(path, options, findings):
     reader, last = read(path.read_bytes())
     findings.files += 1
@@ -177,10 +186,12 @@ def compare(path, options, findings):
     if last.startswith('refused ') != options.refused:
         findings.fault(path, last)
         return
-    for program, wanted in (LIST, listing(reader, last)), (TAGS, tags_lines(reader, last)):
+    for word, program, wanted in ('list', LIST, listing(reader, last)), ('tags', TAGS, tags_lines(reader, last)):
         told = run_on(program, path)
         if told != wanted:
             findings.fault(path, f'{program}: line ' + first_difference(told.split(b'\n'), wanted.split(b'\n')))
+        refused = wanted.splitlines()[-1].startswith(b'refused ')
+        compare_embulgri(path, word, wanted, refused, findings)
     if options.refused:
         return
     if not options.without_ffprobe and reader.head.family != 3:         # ffprobe reads no stream of family 3
@@ -194,7 +205,7 @@ def main():
     parser.add_argument('--refused', action='store_true')
     parser.add_argument('groups', nargs='+', metavar='NAME=DIRECTORY')
     options = parser.parse_args()
-    need(LIST, TAGS, 'opusinfo', *([] if options.without_ffprobe else ['ffprobe']))
+    need(LIST, TAGS, EMBULGRI, 'opusinfo', *([] if options.without_ffprobe else ['ffprobe']))
     faults = 0
     for group in options.groups:
         name, directory = group.split('=', 1)
