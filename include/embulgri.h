@@ -4,8 +4,8 @@
  *
  * Every function but embulgri_checksum, embulgri_start, embulgri_page_end and those that begin with embulgri_list returns
  * a refusal's number, 0 for none. On a refusal every output stays as it was; of embulgri_feed's carry buffer, of the
- * outputs of embulgri_feed_pages and of that of embulgri_header_lines the comments there say more. A pointer is never
- * null, also where its length is 0. Buffers do not overlap.
+ * outputs of embulgri_feed_pages, of the page of embulgri_judge and of the output of embulgri_header_lines the comments
+ * there say more. A pointer is never null, also where its length is 0. Buffers do not overlap.
  */
 #ifndef EMBULGRI_H
 #define EMBULGRI_H
@@ -248,6 +248,15 @@ uint32_t embulgri_feed_pages(uint64_t state[16], const uint8_t *bytes, size_t n,
  * that goes to the end of the bytes; feeding refuses it. It refuses nothing.
  * Example: of "OggS" and 23 zero bytes, at 0 gives 27; of the first 26 of them it gives 0. */
 uint64_t embulgri_page_end(const uint8_t *bytes, size_t n, uint64_t at);
+
+/* Judges a whole stream in a buffer. Its pages are found as embulgri_page_end finds them and fed, one after the other, to
+ * a reader just started; what is left where a page is not whole is fed as it is.
+ *   2 to 18  the first page that is refused is refused by this number; its number, the first page being 0, is stored
+ *            to *page
+ *   24  no page is refused, and the comment header is not complete, also where there are no bytes; *page stays
+ *   0   neither: the stream is whole; *page stays
+ * Example: n 0 returns 24. A whole stream of five pages returns 0, and without its last byte 3, with 4 in *page. */
+uint32_t embulgri_judge(const uint8_t *stream, size_t n, uint64_t *page);
 
 /* ---- the lines that the program embulgri prints; these calls are for it, and may change with it */
 

@@ -5,7 +5,7 @@ use std::ffi::OsStr;
 /// A refusal's number, its name, and when it is given.
 struct Meaning(u32, &'static str, &'static str);
 
-const MEANINGS: [Meaning; 24] = [
+const MEANINGS: [Meaning; 26] = [
     Meaning(
         1,
         "ShortRoom",
@@ -130,6 +130,16 @@ const MEANINGS: [Meaning; 24] = [
         23,
         "UnfitFields",
         "a writer, or opening part way, gets fields that no reading gives",
+    ),
+    Meaning(
+        24,
+        "HeadersIncomplete",
+        "the stream ends before its comment header is complete",
+    ),
+    Meaning(
+        26,
+        "FallingGranule",
+        "a granule position of the index is below the one before it",
     ),
     Meaning(
         30,

@@ -1,6 +1,6 @@
 //! What the tests of the Embulgri library share. The library is called over its C interface and
 //! held to an independent implementation, [`ogg`], [`opus`], [`head`], [`tags`], [`feeding`],
-//! [`buffer_pages`], [`lines`], [`header_text`] and [`clock`], on inputs from a deterministic
+//! [`buffer_pages`], [`judging`], [`lines`], [`header_text`] and [`clock`], on inputs from a deterministic
 //! generator.
 
 pub mod accepted;
@@ -30,6 +30,7 @@ pub mod head_mappings;
 pub mod head_matrix;
 pub mod header_text;
 pub mod inputs;
+pub mod judging;
 pub mod line_calls;
 pub mod lines;
 pub mod ogg;

@@ -1,3 +1,4 @@
 pub mod Answers
 pub mod Feeding
 pub mod Lines
+pub mod Streams

@@ -1,7 +1,8 @@
 // The library for programs in C, Rust and Python: numbers and slices only. include/embulgri.h declares these functions, and
 // says when each refuses by which number. Each but embulgri_checksum, embulgri_start, embulgri_page_end and those that begin with
 // embulgri_list returns 0 and stores what it gives, or returns the number of its refusal and stores nothing, but for the carry
-// buffer of embulgri_feed and the outputs of embulgri_feed_pages and embulgri_header_lines (RULES.md, 14).
+// buffer of embulgri_feed, the page of embulgri_judge and the outputs of embulgri_feed_pages and embulgri_header_lines (RULES.md,
+// 14 and 15).
 ghost use mathlib.Core.Path.{_≡_};
 ghost use Rattle.page_crc.specs.Crc.{crc};
 ghost use Rattle.tags_layout.specs.Finding.{toldPart};
@@ -24,6 +25,7 @@ use tags_writer::TagsWritten;
 pub mod feeding;
 pub mod heads;
 pub mod lines;
+pub mod streams;
 
 // Returns the checksum of the bytes as they are (RULES.md, 3; embulgri.h). It stores nothing and refuses nothing.
 // Example: of the one byte 0x01 it is 0x04c11db7.

@@ -5,7 +5,7 @@ ghost use mathlib.Core.List.{[], _∷_};
 ghost use Rattle.octets.specs.Octets.{Bytes};
 ghost use Rattle.refusal.specs.Checks.{_when_, firstOf, orElse};
 ghost use Rattle.stream.specs.Page.{pageWith};
-ghost use Rattle.stream.specs.State.{inHeaders, expecting};
+ghost use Rattle.stream.specs.State.{expecting};
 ghost use Rattle.stream.specs.Rules.{wrongFlags, fieldChecks};
 ghost use Rattle.stream.specs.Feed.{view};
 ghost use Rattle.feed_fields.specs.Checked.{found, isPending};
@@ -23,19 +23,7 @@ pub enum Checked {
     Refused(Refusal),
 }
 
-// ---- phases and what is unfinished
-
-fn in_headers(phase: Phase) -> bool
-    ensures { λ r. ⌜ r ≡ inHeaders phase ⌝ }
-{
-    match phase {
-        Phase::First => true,
-        Phase::Comment => true,
-        Phase::Audio => false,
-        Phase::Opened => false,
-        Phase::Ended => false,
-    }
-}
+// ---- what is unfinished
 
 fn is_pending(pending: Pending) -> bool
     ensures { λ r. ⌜ r ≡ isPending pending ⌝ }
@@ -89,7 +77,10 @@ fn wrong_flags(phase: Phase, flags: u8) -> bool
         page_flags::is_first_page(flags),
         feed_phase::is_first(phase),
     );
-    let end = both(in_headers(phase), page_flags::is_last_page(flags));
+    let end = both(
+        feed_phase::in_headers(phase),
+        page_flags::is_last_page(flags),
+    );
     either(flags > 7, either(mark, end))
 }
 

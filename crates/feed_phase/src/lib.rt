@@ -1,6 +1,7 @@
-// How far a stream has come: whether no page was accepted yet, an audio page is due, or the last page was marked last.
+// How far a stream has come: whether no page was accepted yet, a header is due, an audio page is due, or the last page was
+// marked last.
 ghost use mathlib.Core.Path.{_≡_};
-ghost use Rattle.stream.specs.State.{isFirst, isAudio, isEnded};
+ghost use Rattle.stream.specs.State.{isFirst, inHeaders, isAudio, isEnded};
 use stream::Phase;
 
 // Whether no page was accepted yet, in a reader that was started (RULES.md, 7).
@@ -11,6 +12,20 @@ pub fn is_first(phase: Phase) -> bool
     match phase {
         Phase::First => true,
         Phase::Comment => false,
+        Phase::Audio => false,
+        Phase::Opened => false,
+        Phase::Ended => false,
+    }
+}
+
+// Whether the comment header is not complete yet (RULES.md, 7).
+// Example: `in_headers(Phase::Comment)` is true, and `in_headers(Phase::Opened)` is false.
+pub fn in_headers(phase: Phase) -> bool
+    ensures { λ r. ⌜ r ≡ inHeaders phase ⌝ }
+{
+    match phase {
+        Phase::First => true,
+        Phase::Comment => true,
         Phase::Audio => false,
         Phase::Opened => false,
         Phase::Ended => false,

@@ -1,6 +1,6 @@
 // A reader of one Opus stream: starting, opening part way, and feeding one page at a time.
 ghost use mathlib.Core.Path.{_≡_};
-ghost use Rattle.stream.specs.State.{isEnded};
+ghost use Rattle.stream.specs.State.{inHeaders, isEnded};
 ghost use Rattle.page_crc.specs.Crc.{pageCrc};
 ghost use Rattle.page_crc_tables.specs.Table.{entryIn};
 ghost use Rattle.page_crc.specs.Sliced.{pageSliced};
@@ -79,6 +79,16 @@ pub fn serial(reader: Reader) -> u32
     ensures { λ r. ⌜ r ≡ reader .core .serial ⌝ }
 {
     reader.core.serial
+}
+
+// Whether the comment header is not complete yet (RULES.md, 7).
+// Example: `in_headers(start())` is true; of a reader opened part way it is false.
+pub fn in_headers(reader: Reader) -> bool
+    ensures { λ r. ⌜ r ≡ inHeaders (reader .core .phase) ⌝ }
+{
+    let core = reader.core;
+    let phase = core.phase;
+    feed_phase::in_headers(phase)
 }
 
 // Whether the last page accepted was marked last, so that 2 holds of any bytes (RULES.md, 2).

@@ -6,7 +6,8 @@ use Rattle.refusal.specs.declared.Refusal.the-variants.{OtherSerial, Out
 use Rattle.refusal.specs.declared.Refusal.the-variants.{PacketTooLong, HeaderShape, WrongGranule, BadHead}
 use Rattle.refusal.specs.declared.Refusal.the-variants.{BadMapping, BadTags, IllegalPacket, MixedLengths}
 use Rattle.refusal.specs.declared.Refusal.the-variants.{GranuleTooSmall, BelowPreSkip, NoPosition, NoSuchPart}
-use Rattle.refusal.specs.declared.Refusal.the-variants.{BadGain, ShortOutput, UnfitFields, ClockRange}
+use Rattle.refusal.specs.declared.Refusal.the-variants.{BadGain, ShortOutput, UnfitFields}
+use Rattle.refusal.specs.declared.Refusal.the-variants.{HeadersIncomplete, FallingGranule, ClockRange}
 
 abbrev pub numberOf : Refusal → ℕ
 numberOf ShortRoom = 1
@@ -32,4 +33,6 @@ numberOf NoSuchPart = 20
 numberOf BadGain = 21
 numberOf ShortOutput = 22
 numberOf UnfitFields = 23
+numberOf HeadersIncomplete = 24
+numberOf FallingGranule = 26
 numberOf ClockRange = 30

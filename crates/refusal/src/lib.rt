@@ -49,6 +49,10 @@ pub enum Refusal {
     ShortOutput,
     // 23: what is to be written, or the header to open a reader with, is wrong
     UnfitFields,
+    // 24: the stream ends before its comment header is complete
+    HeadersIncomplete,
+    // 26: a granule position of an index is below the one before it
+    FallingGranule,
     // 30: no packet has the length, or the exact count would pass 2^63 - 1
     ClockRange,
 }
@@ -81,6 +85,8 @@ pub fn number(r: Refusal) -> u8
         Refusal::BadGain => 21,
         Refusal::ShortOutput => 22,
         Refusal::UnfitFields => 23,
+        Refusal::HeadersIncomplete => 24,
+        Refusal::FallingGranule => 26,
         Refusal::ClockRange => 30,
     }
 }

@@ -6,7 +6,7 @@ use mathlib.Core.List.{List, [], _∷_, map}
 use mathlib.Core.Option.{Option, none, some}
 use native.Mathlib.Omega.{arith}
 use lib.Dec.{ltb}
-use lib.ListN.{length, getD, take, drop, length-take}
+use lib.ListN.{length, getD, take, drop, length-take, length-drop}
 use lib.Seq.{take-append-seam, drop-append-seam}
 use Rattle.octets.specs.Pick.{pick}
 use Rattle.octets.specs.Octets.{Bytes, Octets}
@@ -58,25 +58,37 @@ lacing-few b o =
     let k : getD b 26 0 < 256 = o .below 26 in
     omega arith
 
+lacing-inside : (b : Bytes) → length (pageOf b .lacing) ≤ length b
+unfolding pageOf lacingOf
+lacing-inside b = omega (arith, length-take (countOf b) (drop 27 b), length-drop 27 b)
+
 length-map : {A B : Type 0} (f : A → B) (l : List A) → length (map f l) ≡ length l
 length-map f [] = refl
 length-map f (x ∷ l) = ap suc (length-map f l)
 
-pub audio-few : (R : Readings) (s : State) (b : Bytes) → Octets b → length (measuresOf R s (seen s (pageOf b))) ≤ listMax
+-- no more than it has lacing values
+pub lacing-bounds : (R : Readings) (s : State) (b : Bytes) → length (measuresOf R s (seen s (pageOf b))) ≤ length (pageOf b .lacing)
 unfolding measuresOf audioPackets seen whole
-audio-few R s b o = by (inHeaders (s .phase))
+lacing-bounds R s b = by (inHeaders (s .phase))
   where
-    all : length (join (s .carried) (whole (pageOf b)) (rest (pageOf b)) .packets) ≤ listMax
+    all : length (join (s .carried) (whole (pageOf b)) (rest (pageOf b)) .packets) ≤ length (pageOf b .lacing)
     all =
         let a : length (join (s .carried) (whole (pageOf b)) (rest (pageOf b)) .packets) ≤ length (whole (pageOf b)) = join-few (s .carried)
         (whole (pageOf b)) (rest (pageOf b)) in
         let c : length (whole (pageOf b)) ≤ length (pageOf b .lacing) = whole-few 0 (pageOf b .lacing) (pageOf b .body) in
-        let d : length (pageOf b .lacing) ≤ listMax = lacing-few b o in
         omega arith
 
-    by : (t : Bool) → length (map (R .measureOf (s .streams)) (pick t [] (join (s .carried) (whole (pageOf b)) (rest (pageOf b)) .packets))) ≤ listMax
+    by : (t : Bool) → length (map (R .measureOf (s .streams)) (pick t [] (join (s .carried) (whole (pageOf b)) (rest (pageOf b)) .packets))) ≤ length (pageOf b .lacing)
     by true = omega arith
     by false = rw (length-map (R .measureOf (s .streams)) (join (s .carried) (whole (pageOf b)) (rest (pageOf b)) .packets)) all
+
+-- no more than a list has places
+pub audio-few : (R : Readings) (s : State) (b : Bytes) → Octets b → length (measuresOf R s (seen s (pageOf b))) ≤ listMax
+audio-few R s b o = omega (arith, lacing-bounds R s b, lacing-few b o)
+
+-- no more than it has bytes
+pub page-bounds : (R : Readings) (s : State) (b : Bytes) → length (measuresOf R s (seen s (pageOf b))) ≤ length b
+page-bounds R s b = omega (arith, lacing-bounds R s b, lacing-inside b)
 
 length-entries : (skip : ℕ) (end : Bool) (g at : ℕ) (ds : List Measure) → length (entries skip end g at ds) ≡ length ds
 unfolding entries

@@ -1,0 +1,5 @@
+pub mod Granules
+pub mod Seeking
+mod Again
+mod Filling
+mod Callees

@@ -1,0 +1,4 @@
+pub mod Building
+pub mod Filling
+pub mod Answers
+pub mod Statements

@@ -1,0 +1,11 @@
+pub mod Steps
+pub mod FirstFall
+pub mod UpTo
+pub mod Halves
+pub mod Ends
+pub mod Answered
+pub mod Seeking
+pub mod Falls
+pub mod Means
+pub mod Few
+pub mod Cases

@@ -1,0 +1,4 @@
+pub mod Index
+pub mod Search
+pub mod Answers
+pub mod Statements
