@@ -2,10 +2,11 @@
  *
  * The static library target/staticlib/libembulgri.a, built by `rt staticlib embulgri`, is for x86-64 Linux.
  *
- * Every function but embulgri_checksum, embulgri_start, embulgri_page_end and those that begin with embulgri_list returns
- * a refusal's number, 0 for none. On a refusal every output stays as it was; of embulgri_feed's carry buffer, of the
- * outputs of embulgri_feed_pages, of the page of embulgri_judge and of the output of embulgri_header_lines the comments
- * there say more. A pointer is never null, also where its length is 0. Buffers do not overlap.
+ * Every function but embulgri_checksum, embulgri_start, embulgri_page_end, embulgri_index_count and those that put lines
+ * of a listing or of an index returns a refusal's number, 0 for none. On a refusal every output stays as it was; of
+ * embulgri_feed's carry buffer, of the outputs of embulgri_feed_pages and of embulgri_header_lines, of the page of
+ * embulgri_judge and of the place of embulgri_index_seek the comments there say more. A pointer is never null, also where
+ * its length is 0. Buffers do not overlap.
  */
 #ifndef EMBULGRI_H
 #define EMBULGRI_H
@@ -258,6 +259,36 @@ uint64_t embulgri_page_end(const uint8_t *bytes, size_t n, uint64_t at);
  * Example: n 0 returns 24. A whole stream of five pages returns 0, and without its last byte 3, with 4 in *page. */
 uint32_t embulgri_judge(const uint8_t *stream, size_t n, uint64_t *page);
 
+/* How many records the index of a stream has: one for each page on which an audio packet completes. It refuses nothing; of
+ * bytes that are no whole stream the number means nothing, and embulgri_index_build refuses them.
+ * Example: the two header pages of a stream and an audio page with one packet give 1. */
+uint64_t embulgri_index_count(const uint8_t *stream, size_t n);
+
+/* Builds the index of a whole stream: for each page on which an audio packet completes, in order, its granule position, the
+ * place of its first byte in the stream, and its sequence number, in the first places of the three lists; *count is how
+ * many they are. Places past them stay as they were.
+ *   22  the three lists have different lengths; nothing else is looked at
+ *   2 to 18, 24  the stream is not whole, by this number of embulgri_judge
+ *   22  neither, and the lists are shorter than the index
+ *   0   none of these
+ * Example: a stream of five pages, three of them audio pages that complete a packet, with lists of three places stores 3
+ * to *count. */
+uint32_t embulgri_index_build(const uint8_t *stream, size_t n, uint64_t *granules, size_t granules_n, uint64_t *places,
+                              size_t places_n, uint32_t *sequences, size_t sequences_n, uint64_t *count);
+
+/* Seeks a position, in samples at 48 kHz, in an index: the last record whose granule position is at or before the target
+ * less 3,840, the 80 ms that a decoder needs to settle (RFC 7845, 4.6). The record is found by halving. out: 1 and the
+ * number of the record, the first being 0; or 0 and 0, where no record is early enough or the target is below 3,840; and
+ * the number of records looked at, which is 0 for such a target.
+ *   22  the three lists have different lengths; nothing else is looked at
+ *   26  a granule position is below the one before it; the first such place is stored to *place
+ *   0   neither; out is stored, and *place stays
+ * Example: the granule positions 5000, 6000, 7000, 7000 and 8000, with five places and five sequence numbers, and the
+ * target 10840 store 1, 3, 3. */
+uint32_t embulgri_index_seek(const uint64_t *granules, size_t granules_n, const uint64_t *places, size_t places_n,
+                             const uint32_t *sequences, size_t sequences_n, uint64_t target, uint64_t out[3],
+                             uint64_t *place);
+
 /* ---- the lines that the program embulgri prints; these calls are for it, and may change with it */
 
 /* Puts the line above all packets of a listing into out from place at on. It returns the place after it, or at itself
@@ -280,6 +311,37 @@ uint64_t embulgri_list_refused(uint64_t number, uint64_t page, uint8_t *out, siz
 void embulgri_list_entries(const uint64_t *ends, size_t ends_n, const uint64_t *lengths, size_t lengths_n,
                            const uint64_t *frames, size_t frames_n, const uint64_t *kept, size_t kept_n,
                            uint8_t *out, size_t out_n, uint64_t at, uint64_t put[2]);
+
+/* Puts the line above all records of an index, in the same way. Example: at 0 with an out of 23 bytes returns 23. */
+uint64_t embulgri_index_first(uint8_t *out, size_t out_n, uint64_t at);
+
+/* Puts the lines of records into out from place at on, as long as 53 bytes are left, which is the longest line. The
+ * shortest of the three lists says how many records there are. put: how many lines, and the place after them. It refuses
+ * nothing. Example: the granule position 960, the place 5123 and the sequence number 2 put "960 5123 2" and a line feed,
+ * and store 1 and 11. */
+void embulgri_index_records(const uint64_t *granules, size_t granules_n, const uint64_t *places, size_t places_n,
+                            const uint32_t *sequences, size_t sequences_n, uint8_t *out, size_t out_n, uint64_t at,
+                            uint64_t put[2]);
+
+/* Puts the line of a refusal that names neither a page nor a place, in the same way.
+ * Example: the number 24 puts "refused 24" and a line feed. */
+uint64_t embulgri_index_refused(uint64_t number, uint8_t *out, size_t out_n, uint64_t at);
+
+/* Puts the line above the record that a seek found, in the same way as embulgri_list_first.
+ * Example: at 0 with an out of 30 bytes returns 30. */
+uint64_t embulgri_seek_first(uint8_t *out, size_t out_n, uint64_t at);
+
+/* Puts the line of that record and of the probes, in the same way.
+ * Example: 960, 5123, 2 and 7 put "960 5123 2 7" and a line feed. */
+uint64_t embulgri_seek_found(uint64_t granule, uint64_t place, uint32_t sequence, uint64_t probes, uint8_t *out,
+                             size_t out_n, uint64_t at);
+
+/* Puts the line of a seek that found no record, in the same way. Example: 7 probes put "begin 7" and a line feed. */
+uint64_t embulgri_seek_begin(uint64_t probes, uint8_t *out, size_t out_n, uint64_t at);
+
+/* Puts the line of a refusal with its place, in the same way.
+ * Example: the number 26 and the place 3 put "refused 26 place 3" and a line feed. */
+uint64_t embulgri_seek_refused(uint64_t number, uint64_t place, uint8_t *out, size_t out_n, uint64_t at);
 
 /* Writes all lines that show an identification header packet and a comment header packet to the start of out, and their
  * length to *written.

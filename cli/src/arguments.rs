@@ -1,26 +1,57 @@
 //! What the arguments ask for.
 
+use crate::numbers::decimal;
 use crate::trouble::Trouble;
 use crate::{help, meanings};
 use std::ffi::{OsStr, OsString};
 use std::os::unix::ffi::OsStrExt;
 
+/// The name of a file; without one, standard input is meant.
+pub type Name = Option<OsString>;
+
 /// What is to be done.
 pub enum Task {
-    /// List a file, or standard input where none is named.
-    List(Option<OsString>),
+    /// List a recording.
+    List(Name),
     /// Show its headers.
-    Tags(Option<OsString>),
+    Tags(Name),
+    /// List its index.
+    Index(Name),
+    /// Seek a position in it, by its own index or by a listing of it.
+    Seek {
+        recording: Name,
+        position: u64,
+        listing: Option<Name>,
+    },
     /// Print this text.
     Print(String),
     /// Say how the program is used, since nothing was asked for.
     Usage,
 }
 
-/// What follows the first word: a wish for help, or at most one word more.
+/// What may follow the first word: so many words, and --index with one more.
+struct Most {
+    words: usize,
+    index: bool,
+}
+
+const ONE_WORD: Most = Most {
+    words: 1,
+    index: false,
+};
+
+const SEEK_WORDS: Most = Most {
+    words: 2,
+    index: true,
+};
+
+/// What follows the first word: a wish for help; or words, and the one after --index.
 enum Rest {
     Help,
-    Word(Option<OsString>),
+    Words {
+        plain: Vec<OsString>,
+        index: Option<OsString>,
+    },
 }
 
 /// The task that the words after the program's name ask for.
@@ -31,6 +62,8 @@ pub fn task_of(words: &[OsString]) -> Result<Task, Trouble> {
     match first.as_bytes() {
         b"list" => file_task(rest, Task::List, help::LIST),
         b"tags" => file_task(rest, Task::Tags, help::TAGS),
+        b"index" => file_task(rest, Task::Index, help::INDEX),
+        b"seek" => seek_task(rest),
         b"explain" => explain_task(rest),
         b"--help" | b"-h" => Ok(Task::Print(help::ALL.into())),
         b"--version" => Ok(Task::Print(help::version())),
@@ -40,52 +73,91 @@ pub fn task_of(words: &[OsString]) -> Result<Task, Trouble> {
 }
 
 /// A task on a file.
-fn file_task(
-    words: &[OsString],
-    task: fn(Option<OsString>) -> Task,
-    help: &str,
-) -> Result<Task, Trouble> {
-    match rest_of(words)? {
+fn file_task(words: &[OsString], task: fn(Name) -> Task, help: &str) -> Result<Task, Trouble> {
+    match rest_of(words, ONE_WORD)? {
         Rest::Help => Ok(Task::Print(help.into())),
-        Rest::Word(name) => Ok(task(name.filter(|name| name != "-"))),
+        Rest::Words { mut plain, .. } => Ok(task(plain.pop().and_then(named))),
     }
+}
+
+/// To seek the position that the last word is.
+fn seek_task(words: &[OsString]) -> Result<Task, Trouble> {
+    let Rest::Words { mut plain, index } = rest_of(words, SEEK_WORDS)? else {
+        return Ok(Task::Print(help::SEEK.into()));
+    };
+    let Some(word) = plain.pop() else {
+        return Err(misused_seek("no position to seek"));
+    };
+    let Some(position) = decimal(word.as_bytes()) else {
+        let most = u64::MAX;
+        let message = format!("{word:?} is no position, a decimal number from 0 to {most}");
+        return Err(misused_seek(&message));
+    };
+    let recording = plain.pop().and_then(named);
+    let listing = index.map(named);
+    if recording.is_none() && listing == Some(None) {
+        return Err(misused_seek("the index and the recording are one input"));
+    }
+    Ok(Task::Seek {
+        recording,
+        position,
+        listing,
+    })
 }
 
 /// To print what a number means.
 fn explain_task(words: &[OsString]) -> Result<Task, Trouble> {
-    match rest_of(words)? {
-        Rest::Help => Ok(Task::Print(help::EXPLAIN.into())),
-        Rest::Word(None) => Err(Trouble::new(
+    let Rest::Words { mut plain, .. } = rest_of(words, ONE_WORD)? else {
+        return Ok(Task::Print(help::EXPLAIN.into()));
+    };
+    let Some(word) = plain.pop() else {
+        return Err(Trouble::new(
             "no number to explain; see embulgri explain --help",
-        )),
-        Rest::Word(Some(word)) => match meanings::explained(&word) {
-            Some(text) => Ok(Task::Print(text)),
-            None => Err(Trouble::new(format!(
-                "{word:?} is no number of a refusal; see embulgri explain --help"
-            ))),
-        },
+        ));
+    };
+    match meanings::explained(&word) {
+        Some(text) => Ok(Task::Print(text)),
+        None => Err(Trouble::new(format!(
+            "{word:?} is no number of a refusal; see embulgri explain --help"
+        ))),
     }
 }
 
 /// What follows the first word. After "--" nothing is taken for an option.
-fn rest_of(words: &[OsString]) -> Result<Rest, Trouble> {
-    let mut found = None;
+fn rest_of(words: &[OsString], most: Most) -> Result<Rest, Trouble> {
+    let (mut plain, mut index) = (Vec::new(), None);
     let mut options = true;
-    for word in words {
+    let mut words = words.iter();
+    while let Some(word) = words.next() {
         match word.as_bytes() {
             b"--" if options => options = false,
             b"--help" | b"-h" if options => return Ok(Rest::Help),
+            b"--index" if options && most.index => match words.next() {
+                Some(_) if index.is_some() => return Err(misused("one option too many", word)),
+                Some(name) => index = Some(name.clone()),
+                None => return Err(misused("no file after", word)),
+            },
             text if options && text.len() > 1 && text[0] == b'-' => {
                 return Err(misused("unknown option", word));
             }
-            _ if found.is_some() => return Err(misused("one word too many", word)),
-            _ => found = Some(word.clone()),
+            _ if plain.len() == most.words => return Err(misused("one word too many", word)),
+            _ => plain.push(word.clone()),
         }
     }
-    Ok(Rest::Word(found))
+    Ok(Rest::Words { plain, index })
+}
+
+/// What a word names where a file is due: "-" is standard input.
+fn named(word: OsString) -> Name {
+    Some(word).filter(|word| word != "-")
 }
 
 /// Of a word that is not understood.
 fn misused(what: &str, word: &OsStr) -> Trouble {
     Trouble::new(format!("{what}: {word:?}; see embulgri --help"))
+}
+
+/// Of words for `seek` that do not go together.
+fn misused_seek(what: &str) -> Trouble {
+    Trouble::new(format!("{what}; see embulgri seek --help"))
 }

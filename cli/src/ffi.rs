@@ -5,6 +5,7 @@ extern "C" {
     pub fn embulgri_start(state: *mut u64);
     pub fn embulgri_page_end(bytes: *const u8, n: usize, at: u64) -> u64;
     pub fn embulgri_page_read(page: *const u8, n: usize, out: *mut u64) -> u32;
+    pub fn embulgri_judge(stream: *const u8, n: usize, page: *mut u64) -> u32;
     pub fn embulgri_feed(
         state: *mut u64,
         page: *const u8,
@@ -36,6 +37,29 @@ extern "C" {
         frames: *mut u64,
         frames_n: usize,
         out: *mut u64,
+    ) -> u32;
+    pub fn embulgri_index_count(stream: *const u8, n: usize) -> u64;
+    pub fn embulgri_index_build(
+        stream: *const u8,
+        n: usize,
+        granules: *mut u64,
+        granules_n: usize,
+        places: *mut u64,
+        places_n: usize,
+        sequences: *mut u32,
+        sequences_n: usize,
+        count: *mut u64,
+    ) -> u32;
+    pub fn embulgri_index_seek(
+        granules: *const u64,
+        granules_n: usize,
+        places: *const u64,
+        places_n: usize,
+        sequences: *const u32,
+        sequences_n: usize,
+        target: u64,
+        out: *mut u64,
+        place: *mut u64,
     ) -> u32;
     pub fn embulgri_list_first(out: *mut u8, out_n: usize, at: u64) -> u64;
     pub fn embulgri_list_total(state: *const u64, out: *mut u8, out_n: usize, at: u64) -> u64;
@@ -69,4 +93,36 @@ extern "C" {
         out_n: usize,
         written: *mut u64,
     ) -> u32;
+    pub fn embulgri_index_first(out: *mut u8, out_n: usize, at: u64) -> u64;
+    pub fn embulgri_index_records(
+        granules: *const u64,
+        granules_n: usize,
+        places: *const u64,
+        places_n: usize,
+        sequences: *const u32,
+        sequences_n: usize,
+        out: *mut u8,
+        out_n: usize,
+        at: u64,
+        put: *mut u64,
+    );
+    pub fn embulgri_index_refused(number: u64, out: *mut u8, out_n: usize, at: u64) -> u64;
+    pub fn embulgri_seek_first(out: *mut u8, out_n: usize, at: u64) -> u64;
+    pub fn embulgri_seek_found(
+        granule: u64,
+        place: u64,
+        sequence: u32,
+        probes: u64,
+        out: *mut u8,
+        out_n: usize,
+        at: u64,
+    ) -> u64;
+    pub fn embulgri_seek_begin(probes: u64, out: *mut u8, out_n: usize, at: u64) -> u64;
+    pub fn embulgri_seek_refused(
+        number: u64,
+        place: u64,
+        out: *mut u8,
+        out_n: usize,
+        at: u64,
+    ) -> u64;
 }

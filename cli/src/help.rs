@@ -8,6 +8,10 @@ usage: embulgri list [FILE]   one line a packet: its end stamp, its length, its
                               frames and how much of it is kept
        embulgri tags [FILE]   the identification header, the vendor and the
                               comments
+       embulgri index [FILE]  one line a page where an audio packet completes: its
+                              granule position, place and sequence number
+       embulgri seek [FILE] POSITION [--index FILE]
+                              the page from which to read to play from POSITION
        embulgri explain N     what the number of a refusal means
        embulgri --help        this text; embulgri list --help says more of list,
                               and so on
@@ -18,8 +22,8 @@ is taken for an option.
 
 exit status:
   0  done
-  2  a page was refused: the last line is \"refused N page K\", and standard
-     error says what that means
+  2  a page was refused: the last line is \"refused N page K\"; or an index was:
+     \"refused N place P\". Standard error says what that means
   3  trouble: wrong arguments, or reading or writing failed; standard error
      says which
 ";
@@ -63,13 +67,64 @@ exit status: 0 shown, 2 a page was refused, 3 trouble, also where the input
 ends before both headers are complete
 ";
 
+/// What `index` prints.
+pub const INDEX: &str = "\
+usage: embulgri index [FILE]
+
+Lists the index of an Ogg Opus recording. The first line names the columns, and
+one line follows for each page on which an audio packet completes:
+  granule   its granule position, in samples at 48,000 a second
+  place     the byte at which it starts
+  sequence  its sequence number
+Where a page breaks a rule, \"refused N page K\" is the only line, and where the
+recording ends before its comment header is complete, \"refused 24\". Pages and
+bytes are counted from 0.
+
+Without FILE, or where it is \"-\", standard input is read. A file is mapped: it
+may grow meanwhile, but what it has must stay as it is. Any other input is read
+into memory whole. A line takes 20 bytes of memory more.
+
+exit status: 0 listed whole, 2 a page was refused, 3 trouble
+";
+
+/// What `seek` prints.
+pub const SEEK: &str = "\
+usage: embulgri seek [FILE] POSITION [--index FILE]
+
+Tells the page from which to read an Ogg Opus recording to play it from POSITION
+on: the last one of its index with a granule position at or before POSITION less
+3,840, the 80 ms that a decoder needs before what it gives is right. POSITION is
+a decimal number of samples at 48,000 a second, from 0 to 18446744073709551615,
+and counts as granule positions do.
+
+The first line names the columns, and the second has the page's line in the
+index and the number of probes, the records that the search looked at. Where no
+page is early enough, \"begin PROBES\" is the only line: the recording is to be
+read from its start. Refusals are those of embulgri index.
+
+With --index the index is not made of the recording, but read from a listing,
+which embulgri index printed. Of the recording, only the page that is found is
+looked at, which must have the granule position and the sequence number that the
+listing says. Where a granule position in the listing is below the one before
+it, \"refused 26 place P\" is the only line, P being the first such record,
+counted from 0.
+
+Without FILE, or where it is \"-\", standard input is read, for the recording or
+for the listing. A file is mapped: it may grow meanwhile, but what it has must
+stay as it is. Any other input is read into memory whole, but for a recording
+with --index. A record of the index takes 20 bytes of memory more.
+
+exit status: 0 answered, 2 a page or the index was refused, 3 trouble, also
+where a listing is no index, or not that of the recording
+";
+
 /// What `explain` prints.
 pub const EXPLAIN: &str = "\
 usage: embulgri explain N
 
 Says what the number N of \"refused N page K\" means. There are numbers from 1 to
-23, and 30. Those from 2 to 18 end a listing; the others are told to programs
-that call the library.
+24, and 26 and 30. Those from 2 to 18 end a listing, and these, 24 and 26 are
+given by index and seek; the others are told to programs that call the library.
 
 exit status: 0 said, 3 there is no such number
 ";

@@ -91,6 +91,38 @@ impl Input {
         self.fed += n as u64;
     }
 
+    /// Takes the bytes up to a place of the input, none before those at hand, for fed; false where
+    /// the input ends before that place.
+    pub fn skip_to(&mut self, place: u64) -> Result<bool, Trouble> {
+        loop {
+            let left = place - self.fed;
+            self.take(left.min(self.bytes().len() as u64) as usize);
+            if self.fed == place {
+                return Ok(true);
+            }
+            if !self.read_more()? {
+                return Ok(false);
+            }
+        }
+    }
+
+    /// Gets all bytes of the input. What is not mapped is read into memory, which grows with it.
+    pub fn read_whole(&mut self) -> Result<(), Trouble> {
+        let Source::Pieces {
+            file,
+            buffer,
+            ended,
+        } = &mut self.source
+        else {
+            return Ok(());
+        };
+        buffer.truncate(self.to);
+        file.read_to_end(buffer)
+            .map_err(|why| Trouble::reading(&self.name, &why))?;
+        (self.to, *ended) = (buffer.len(), true);
+        Ok(())
+    }
+
     /// Gets more bytes after those at hand; false where the input has ended.
     pub fn read_more(&mut self) -> Result<bool, Trouble> {
         let Source::Pieces {

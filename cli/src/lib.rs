@@ -7,6 +7,7 @@ mod ffi;
 pub mod lines;
 pub mod pages;
 pub mod reader;
+pub mod records;
 
 /// The most bytes that a packet has, and what a carry buffer needs.
 pub const PACKET_MAX: usize = 61_440;
@@ -16,6 +17,9 @@ pub const PLACES: usize = 1_024;
 
 /// As many bytes as the lines of two headers ever take.
 pub const HEADER_LINES_MAX: usize = 1_048_576;
+
+/// The number of a stream that ends before its comment header is complete. No page is so refused.
+pub const HEADERS_INCOMPLETE: u32 = 24;
 
 /// Whether a call was accepted, by the number that it returns: 0, or that of the refusal.
 fn accepted(number: u32) -> Result<(), u32> {

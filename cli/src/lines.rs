@@ -2,10 +2,11 @@
 //! gives the place after it, or the same place where the line does not fit.
 
 use crate::reader::Reader;
+use crate::records::{Index, Record};
 use crate::{accepted, ffi};
 use std::ops::Range;
 
-/// How many lines of packets were put, and the place after them.
+/// How many lines of packets or records were put, and the place after them.
 pub struct Put {
     pub count: usize,
     pub at: usize,
@@ -84,4 +85,83 @@ pub fn put_headers(head: &[u8], tags: &[u8], out: &mut [u8]) -> Result<usize, u3
     };
     accepted(number)?;
     Ok(written as usize)
+}
+
+/// The line of a refusal that names no page.
+pub fn put_number_refused(number: u32, out: &mut [u8], at: usize) -> usize {
+    // SAFETY: the pointer and the length are those of one slice.
+    unsafe {
+        ffi::embulgri_index_refused(number.into(), out.as_mut_ptr(), out.len(), at as u64) as usize
+    }
+}
+
+/// The line above all records of an index.
+pub fn put_index_first(out: &mut [u8], at: usize) -> usize {
+    // SAFETY: the pointer and the length are those of one slice.
+    unsafe { ffi::embulgri_index_first(out.as_mut_ptr(), out.len(), at as u64) as usize }
+}
+
+/// The lines of the records with these numbers, as many as surely fit.
+pub fn put_records(index: &Index, numbers: Range<usize>, out: &mut [u8], at: usize) -> Put {
+    let granules = &index.granules[numbers.clone()];
+    let places = &index.places[numbers.clone()];
+    let sequences = &index.sequences[numbers];
+    let mut put = [0; 2];
+    // SAFETY: each pointer goes with the length of its own slice, and `put` has the two places that
+    // are written; `out` and `put` are borrowed mutably, so they overlap nothing.
+    unsafe {
+        ffi::embulgri_index_records(
+            granules.as_ptr(),
+            granules.len(),
+            places.as_ptr(),
+            places.len(),
+            sequences.as_ptr(),
+            sequences.len(),
+            out.as_mut_ptr(),
+            out.len(),
+            at as u64,
+            put.as_mut_ptr(),
+        );
+    }
+    Put {
+        count: put[0] as usize,
+        at: put[1] as usize,
+    }
+}
+
+/// The line above what a search found.
+pub fn put_seek_first(out: &mut [u8], at: usize) -> usize {
+    // SAFETY: the pointer and the length are those of one slice.
+    unsafe { ffi::embulgri_seek_first(out.as_mut_ptr(), out.len(), at as u64) as usize }
+}
+
+/// The record that a search found, after so many probes.
+pub fn put_found(record: &Record, probes: u64, out: &mut [u8], at: usize) -> usize {
+    // SAFETY: the pointer and the length are those of one slice.
+    unsafe {
+        ffi::embulgri_seek_found(
+            record.granule,
+            record.place,
+            record.sequence,
+            probes,
+            out.as_mut_ptr(),
+            out.len(),
+            at as u64,
+        ) as usize
+    }
+}
+
+/// The line of a search that found no record early enough, after so many probes.
+pub fn put_begin(probes: u64, out: &mut [u8], at: usize) -> usize {
+    // SAFETY: the pointer and the length are those of one slice.
+    unsafe { ffi::embulgri_seek_begin(probes, out.as_mut_ptr(), out.len(), at as u64) as usize }
+}
+
+/// The line of a refusal of an index, by its number, for the record at a place.
+pub fn put_index_refused(number: u32, place: u64, out: &mut [u8], at: usize) -> usize {
+    let number = u64::from(number);
+    // SAFETY: the pointer and the length are those of one slice.
+    unsafe {
+        ffi::embulgri_seek_refused(number, place, out.as_mut_ptr(), out.len(), at as u64) as usize
+    }
 }

@@ -45,7 +45,9 @@ impl Listing {
             let fed = self.reader.feed_pages(input.bytes());
             input.take(fed.bytes);
             self.pages += fed.pages;
-            self.output.put_entries(&self.reader, fed.packets)?;
+            self.output.put_lines(fed.packets, |from, out, at| {
+                lines::put_entries(&self.reader, from..fed.packets, out, at)
+            })?;
             match fed.stop {
                 Stop::Full => {}
                 Stop::Refused(number) => return Err(Stopped::Refused(number)),

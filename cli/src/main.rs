@@ -9,16 +9,20 @@
 mod arguments;
 mod ending;
 mod help;
+mod index;
 mod input;
 mod list;
+mod listing;
 mod mapping;
 mod meanings;
+mod numbers;
 mod output;
+mod seek;
 mod signals;
 mod tags;
 mod trouble;
 
-use crate::arguments::Task;
+use crate::arguments::{Name, Task};
 use crate::ending::Ending;
 use crate::input::Input;
 use crate::trouble::{say, show, Trouble};
@@ -44,6 +48,12 @@ fn run(task: Task) -> Result<c_int, Trouble> {
     match task {
         Task::List(name) => follow(Input::open(name)?, list::list),
         Task::Tags(name) => follow(Input::open(name)?, tags::tags),
+        Task::Index(name) => follow(Input::open(name)?, index::index),
+        Task::Seek {
+            recording,
+            position,
+            listing,
+        } => seek(Input::open(recording)?, position, listing),
         Task::Print(text) => output::print(&text).map(|()| 0),
         Task::Usage => {
             show(help::ALL);
@@ -52,20 +62,36 @@ fn run(task: Task) -> Result<c_int, Trouble> {
     }
 }
 
+/// Seeks a position in a recording, by its own index or by a listing.
+fn seek(mut recording: Input, position: u64, listing: Option<Name>) -> Result<c_int, Trouble> {
+    match listing {
+        None => follow(recording, |input| seek::seek(input, position)),
+        Some(name) => follow(Input::open(name)?, |listing| {
+            seek::seek_by(listing, &mut recording, position)
+        }),
+    }
+}
+
 /// Follows an input, and says in words why it was refused.
 fn follow(
     mut input: Input,
-    task: fn(&mut Input) -> Result<Ending, Trouble>,
+    task: impl FnOnce(&mut Input) -> Result<Ending, Trouble>,
 ) -> Result<c_int, Trouble> {
-    match task(&mut input)? {
-        Ending::Done => Ok(0),
-        Ending::Refused { number, page, at } => {
-            let name = input.name();
-            let meaning = meanings::meaning_of(number);
-            say(format_args!(
-                "{name}: page {page}, which starts at byte {at}, is refused by {number}: {meaning}"
-            ));
-            Ok(2)
+    let (number, what) = match task(&mut input)? {
+        Ending::Done => return Ok(0),
+        Ending::StreamRefused { number } => (number, "the stream is".into()),
+        Ending::Refused { number, page, at } => (
+            number,
+            format!("page {page}, which starts at byte {at}, is"),
+        ),
+        Ending::IndexRefused { number, place } => {
+            (number, format!("the record at place {place} is"))
         }
-    }
+    };
+    let name = input.name();
+    let meaning = meanings::meaning_of(number);
+    say(format_args!(
+        "{name}: {what} refused by {number}: {meaning}"
+    ));
+    Ok(2)
 }

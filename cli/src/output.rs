@@ -2,8 +2,7 @@
 
 use crate::ending::Ending;
 use crate::trouble::Trouble;
-use embulgri::lines;
-use embulgri::reader::Reader;
+use embulgri::lines::{self, Put};
 use std::fs::File;
 use std::io::Write;
 use std::mem::ManuallyDrop;
@@ -47,25 +46,43 @@ impl Output {
         Ok(())
     }
 
-    /// Puts the lines of the first packets of a reader's lists, so many of them.
-    pub fn put_entries(&mut self, reader: &Reader, packets: usize) -> Result<(), Trouble> {
+    /// Puts so many lines. The function puts those from a number on, as many as surely fit.
+    pub fn put_lines(
+        &mut self,
+        count: usize,
+        lines_from: impl Fn(usize, &mut [u8], usize) -> Put,
+    ) -> Result<(), Trouble> {
         let mut listed = 0;
-        while listed < packets {
-            let put = lines::put_entries(reader, listed..packets, &mut self.room, self.filled);
+        while listed < count {
+            let put = lines_from(listed, &mut self.room, self.filled);
             listed += put.count;
             self.filled = put.at;
-            if listed < packets {
+            if listed < count {
                 self.write()?;
             }
         }
         Ok(())
     }
 
-    /// Puts the line of a refusal, and writes what waits.
+    /// Puts the line of a refusal of a page, and writes what waits.
     pub fn end_refused(&mut self, number: u32, page: u64, at: u64) -> Result<Ending, Trouble> {
         self.put(|out, place| lines::put_refused(number, page, out, place))?;
         self.write()?;
         Ok(Ending::Refused { number, page, at })
+    }
+
+    /// Puts the line of a refusal of a whole stream, and writes what waits.
+    pub fn end_stream_refused(&mut self, number: u32) -> Result<Ending, Trouble> {
+        self.put(|out, at| lines::put_number_refused(number, out, at))?;
+        self.write()?;
+        Ok(Ending::StreamRefused { number })
+    }
+
+    /// Puts the line of a refusal of an index, for the record at a place, and writes what waits.
+    pub fn end_index_refused(&mut self, number: u32, place: u64) -> Result<Ending, Trouble> {
+        self.put(|out, at| lines::put_index_refused(number, place, out, at))?;
+        self.write()?;
+        Ok(Ending::IndexRefused { number, place })
     }
 
     /// Writes what waits.

@@ -1,7 +1,7 @@
 //! What the tests of the Embulgri library share. The library is called over its C interface and
 //! held to an independent implementation, [`ogg`], [`opus`], [`head`], [`tags`], [`feeding`],
-//! [`buffer_pages`], [`judging`], [`lines`], [`header_text`] and [`clock`], on inputs from a deterministic
-//! generator.
+//! [`buffer_pages`], [`judging`], [`index`], [`lines`], [`header_text`] and [`clock`], on inputs from a
+//! deterministic generator.
 
 pub mod accepted;
 pub mod buffer_inputs;
@@ -21,6 +21,7 @@ pub mod feed_faults;
 pub mod feed_headers;
 pub mod feeding;
 pub mod ffi;
+pub mod ffi_index;
 pub mod ffi_lines;
 pub mod head;
 pub mod head_damages;
@@ -29,11 +30,15 @@ pub mod head_inputs;
 pub mod head_mappings;
 pub mod head_matrix;
 pub mod header_text;
+pub mod index;
+pub mod index_calls;
 pub mod inputs;
 pub mod judging;
 pub mod line_calls;
+pub mod line_inputs;
 pub mod lines;
 pub mod ogg;
+pub mod opened;
 pub mod opus;
 pub mod packet_classes;
 pub mod packet_damages;

@@ -3,7 +3,8 @@
 
 use crate::ffi_lines;
 use crate::header_text;
-use crate::lines::{self, Line, Packets, LONGEST_LINE};
+use crate::index::Index;
+use crate::lines::{self, Line, Packets, LONGEST_LINE, LONGEST_RECORD};
 use crate::ogg::NO_ROOM;
 use crate::reading::Reading;
 use crate::writing::{assert_same_bytes, old_bytes, BEFORE, BEHIND};
@@ -36,35 +37,81 @@ impl Outputs {
     }
 }
 
+/// Puts a line by the library.
+fn put(line: &Line, out: &mut [u8], at: u64) -> u64 {
+    match *line {
+        Line::First => ffi_lines::list_first(out, at),
+        Line::Total(ref numbers) => ffi_lines::list_total(numbers, out, at),
+        Line::Refused { number, page } => ffi_lines::list_refused(number, page, out, at),
+        Line::IndexFirst => ffi_lines::index_first(out, at),
+        Line::SeekFirst => ffi_lines::seek_first(out, at),
+        Line::Found {
+            granule,
+            place,
+            sequence,
+            probes,
+        } => ffi_lines::seek_found([granule, place, probes], sequence, out, at),
+        Line::Begin { probes } => ffi_lines::seek_begin(probes, out, at),
+        Line::Number(number) => ffi_lines::index_refused(number, out, at),
+        Line::Unsought { number, place } => ffi_lines::seek_refused(number, place, out, at),
+    }
+}
+
 /// Puts a line at a place of an output of `room` bytes, holds the library to the rules and gives the
 /// answer.
 pub fn check_line(line: &Line, room: usize, at: u64, case: impl Display) -> u64 {
     let text = line.text();
     let mut outputs = Outputs::of(room, text.len());
     let [library, rules] = outputs.lend();
-    let found = match line {
-        Line::First => ffi_lines::list_first(library, at),
-        Line::Total(numbers) => ffi_lines::list_total(numbers, library, at),
-        Line::Refused { number, page } => ffi_lines::list_refused(*number, *page, library, at),
-    };
+    let found = put(line, library, at);
     let told = lines::put(&text, rules, at);
     assert_eq!(found, told, "{line:?} at {at} of {room}, {case}");
     outputs.check(case);
     found
 }
 
-/// The same with the lines of packets. The answer is how many they are and the place after them.
-pub fn check_packets(packets: &Packets, room: usize, at: u64, case: impl Display) -> [u64; 2] {
-    let mut outputs = Outputs::of(room, LONGEST_LINE);
+/// Lines, how long they are at most, and how the library puts them.
+struct Lines<F> {
+    lines: Vec<String>,
+    longest: usize,
+    put: F,
+}
+
+/// The same with such lines. The answer is how many they are and the place after them.
+fn check_lines<F>(all: Lines<F>, room: usize, at: u64, case: impl Display) -> [u64; 2]
+where
+    F: FnOnce(&mut [u8], &mut [u64; 2]),
+{
+    let mut outputs = Outputs::of(room, all.longest);
     let [library, rules] = outputs.lend();
-    let found = Reading::by_library(|put| {
-        ffi_lines::list_entries(packets, library, at, put);
+    let found = Reading::by_library(|numbers| {
+        (all.put)(library, numbers);
         0
     });
-    let told = lines::put_all(packets, rules, at);
+    let told = lines::put_all(&all.lines, all.longest, rules, at);
     assert_eq!(found, Reading::accepted(told), "at {at} of {room}, {case}");
     outputs.check(case);
     told
+}
+
+/// The same with the lines of packets.
+pub fn check_packets(packets: &Packets, room: usize, at: u64, case: impl Display) -> [u64; 2] {
+    let lines = Lines {
+        lines: packets.lines(),
+        longest: LONGEST_LINE,
+        put: |out: &mut [u8], put: &mut [u64; 2]| ffi_lines::list_entries(packets, out, at, put),
+    };
+    check_lines(lines, room, at, case)
+}
+
+/// The same with the lines of an index's records.
+pub fn check_records(index: &Index, room: usize, at: u64, case: impl Display) -> [u64; 2] {
+    let lines = Lines {
+        lines: lines::record_lines(index),
+        longest: LONGEST_RECORD,
+        put: |out: &mut [u8], put: &mut [u64; 2]| ffi_lines::index_records(index, out, at, put),
+    };
+    check_lines(lines, room, at, case)
 }
 
 /// Writes the lines of two headers to an output of `room` bytes, holds the library to the rules and

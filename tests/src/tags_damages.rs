@@ -188,18 +188,14 @@ pub const DAMAGES: &[Change<Vec<u8>>] = &[
         let length = random.below(300);
         *packet = random.bytes(length)
     }),
-    change(
-        "random bytes after the signature",
-        ANY,
-        |random, packet| {
-            let length = random.within(8..=60);
-            *packet = random.bytes(length);
-            packet[..8].copy_from_slice(b"OpusTags");
-            for byte in &mut packet[8..] {
-                *byte &= *random.pick(&[0, 1, 7, 0x7f])
-            }
-        },
-    ),
+    change("random bytes after the signature", ANY, |random, packet| {
+        let length = random.within(8..=60);
+        *packet = random.bytes(length);
+        packet[..8].copy_from_slice(b"OpusTags");
+        for byte in &mut packet[8..] {
+            *byte &= *random.pick(&[0, 1, 7, 0x7f])
+        }
+    }),
 ];
 
 /// Values of a field of 32 bits close to a right one: its neighbours and those of 2^32.

@@ -15,6 +15,7 @@ import re
 import sys
 
 from comments import tags_lines
+from index import index_lines, indexed
 from listing import listing, read
 from programs import EMBULGRI, LIST, TAGS, ffprobe, need, opusinfo, run, run_on
 
@@ -179,7 +180,8 @@ def compare_embulgri(path, word, wanted, refused, findings):
 
 
 def compare(path, options, findings):
-    reader, last = read(path.read_bytes())
+    data = path.read_bytes()
+    reader, last = read(data)
     findings.files += 1
     findings.packets += len(reader.entries)
     findings.several += sum(entry.frames > 1 for entry in reader.entries)
@@ -192,6 +194,7 @@ def compare(path, options, findings):
             findings.fault(path, f'{program}: line ' + first_difference(told.split(b'\n'), wanted.split(b'\n')))
         refused = wanted.splitlines()[-1].startswith(b'refused ')
         compare_embulgri(path, word, wanted, refused, findings)
+    compare_embulgri(path, 'index', index_lines(*indexed(data, reader, last)), options.refused, findings)
     if options.refused:
         return
     if not options.without_ffprobe and reader.head.family != 3:         # ffprobe reads no stream of family 3

@@ -54,6 +54,14 @@ def long_stream(packets):
     return stream(pages)
 
 
+def pages_stream(pages):
+    """Packets of 2.5 ms and one byte, one on a page; the last of several pages is marked last, and trimmed whole."""
+    audio = [whole(0, 120 * number, b'\xe0') for number in range(1, pages + 1)]
+    if pages > 1:
+        audio[-1] = whole(LAST, 120 * (pages - 1), b'\xe0')
+    return stream([whole(FIRST, 0, head()), whole(0, 0, tags()), *audio])
+
+
 def constant(frame, count, size, delimited):
     """An Opus packet of code 3: frames of so many samples, their count, and the bytes of each."""
     return bytes([TOCS[frame] | 3, count]) + bytes([size] * delimited) + bytes(size * count)

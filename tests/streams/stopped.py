@@ -1,4 +1,4 @@
-"""Runs of `embulgri list` that are stopped part way, while its output or its input waits; input that fails part way, or comes
+"""Runs of `embulgri` that are stopped part way, while its output or its input waits; input that fails part way, or comes
 in pieces."""
 import os
 import re
@@ -61,3 +61,13 @@ def memory_of(data):
         wait_until_asleep(child.pid)
         with open(f'/proc/{child.pid}/status', encoding='utf-8') as file:
             return int(re.search(r'VmHWM:\s*(\d+) kB', file.read())[1])
+
+
+def own_memory_of(*words):
+    """The memory, in KiB and without what is mapped of a file, that the program has while it waits to write its output,
+    which is longer than a pipe holds."""
+    with subprocess.Popen([EMBULGRI, *words], bufsize=0, stdout=subprocess.PIPE) as child:
+        child.stdout.read(1)
+        wait_until_asleep(child.pid)
+        with open(f'/proc/{child.pid}/status', encoding='utf-8') as file:
+            return int(re.search(r'RssAnon:\s*(\d+) kB', file.read())[1])

@@ -3,6 +3,7 @@
 
 use embulgri_tests::ffi_lines::{list_entries, list_first, list_refused, list_total};
 use embulgri_tests::line_calls::{check_line, check_packets};
+use embulgri_tests::line_inputs::{any_number, of_digits, room, FAR};
 use embulgri_tests::lines::{Line, Packets, LONGEST_LINE};
 use embulgri_tests::random::{times, Random};
 use embulgri_tests::reader::NUMBERS;
@@ -12,9 +13,6 @@ const LINES: usize = 200_000;
 const LISTS: usize = 40_000;
 const LEAST_OF_EACH: usize = 1_000;
 const LEAST_PUT: usize = 500_000;
-
-/// Places at which no line fits.
-const FAR: [u64; 6] = [1 << 20, 1 << 31, 1 << 32, 1 << 63, u64::MAX - 20, u64::MAX];
 
 /// A reader's numbers with these totals.
 fn state(totals: [u64; 4]) -> [u64; NUMBERS] {
@@ -150,22 +148,6 @@ fn packets_at_every_room_are_put_or_not() {
     }
 }
 
-/// A number of so many digits, often one at the ends of these.
-fn of_digits(random: &mut Random, digits: u32) -> u64 {
-    let least = 10_u64.pow(digits - 1);
-    let most = 10_u64.checked_pow(digits).map_or(u64::MAX, |next| next - 1);
-    let any = least + random.number() % (most - least + 1);
-    *random.pick(&[least, most, any, any])
-}
-
-fn any_number(random: &mut Random) -> u64 {
-    let digits = random.within(1..=20) as u32;
-    match random.one_in(16) {
-        true => 0,
-        false => of_digits(random, digits),
-    }
-}
-
 #[test]
 fn any_line_is_put_where_it_fits() {
     let mut random = Random::of_run(116);
@@ -183,13 +165,7 @@ fn any_line_is_put_where_it_fits() {
             }
         };
         let (at, length) = (random.below(200), line.text().len());
-        let room = match random.below(8) {
-            0 => random.below(at + length + 1),
-            1 => at + length - 1,
-            2..=3 => at + length,
-            4 => at,
-            _ => at + length + random.below(100),
-        };
+        let room = room(&mut random, at, length);
         let end = check_line(&line, room, at as u64, number);
         let outcome = if end as usize > at { "put" } else { "left out" };
         classes.add(format!("{name} line {outcome}"));

@@ -140,7 +140,10 @@ fn headers_cut_short_at_every_place_are_refused_and_bytes_after_them_ignored() {
         for more in 0..=255 {
             let long = [&bytes[..], &[more; 3]].concat();
             for length in bytes.len()..=long.len() {
-                assert_eq!(read(&long[..length], &mut tally, "bytes after the comments"), 0);
+                assert_eq!(
+                    read(&long[..length], &mut tally, "bytes after the comments"),
+                    0
+                );
                 assert_eq!(found_tags(&long[..length]), tags);
             }
         }

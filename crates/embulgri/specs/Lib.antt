@@ -2,3 +2,4 @@ pub mod Answers
 pub mod Feeding
 pub mod Lines
 pub mod Streams
+pub mod Index

@@ -16,7 +16,7 @@ use Rattle.list_lines.specs.Lines.{entryLine, longest}
 use Rattle.list_entries.specs.Entries.{Lined, noLines, before, linesIn, PutLines}
 
 -- lines in front of others
-abbrev after : Bytes → ℕ → Lined → Lined
+abbrev pub after : Bytes → ℕ → Lined → Lined
 after text n l = record { text = text ++ l .text; count = n + l .count }
 
 -- the lines of the packets from number i on
@@ -30,7 +30,7 @@ pub record Done (d : Bytes) (at : ℕ) (ends lengths frames kept : List ℕ) (ou
   pub here : place ≡ at + length text
   pub all : linesIn (length d - at) ends lengths frames kept ≡ after text i (linesFrom i (length d - place) ends lengths frames kept)
 
-no-text : (d : Bytes) (at : ℕ) → d ≡ copied d at []
+pub no-text : (d : Bytes) (at : ℕ) → d ≡ copied d at []
 unfolding copied
 no-text d at = by (leb (at + 0) (length d))
   where
@@ -44,7 +44,7 @@ done-starts d at ends lengths frames kept =
     let n : 0 + l .count ≡ l .count = omega arith in
     record { text = []; output = no-text d at; here = omega arith; all = sym (ap (λ (c : ℕ). record { text = l .text; count = c }) n) }
 
-still : (i : ℕ) (l : List ℕ) → 1 ≤ length (drop i l) → i < length l
+pub still : (i : ℕ) (l : List ℕ) → 1 ≤ length (drop i l) → i < length l
 still i l h = omega (arith, length-drop i l)
 
 -- no packet is left

@@ -1,0 +1,130 @@
+//! An index of a stream, in three lists, and the search in it.
+
+use crate::{accepted, ffi};
+
+/// A page where an audio packet completes: its granule position, the place of its first byte in the
+/// stream, and its sequence number.
+pub struct Record {
+    pub granule: u64,
+    pub place: u64,
+    pub sequence: u32,
+}
+
+/// An index of 20 bytes a record.
+pub struct Index {
+    pub(crate) granules: Vec<u64>,
+    pub(crate) places: Vec<u64>,
+    pub(crate) sequences: Vec<u32>,
+}
+
+/// What a search found, and how many records it looked at for that.
+pub enum Sought {
+    /// The record with this number, the first being 0.
+    Record { number: usize, probes: u64 },
+    /// No record is early enough.
+    Begin { probes: u64 },
+    /// The index is refused by this number, for the record at this place.
+    Refused { number: u32, place: u64 },
+}
+
+/// How many records the index of a stream has.
+pub fn count_of(stream: &[u8]) -> usize {
+    // SAFETY: the pointer and the length are those of one slice.
+    unsafe { ffi::embulgri_index_count(stream.as_ptr(), stream.len()) as usize }
+}
+
+impl Index {
+    /// An index of so many records, all of zeros; none where there is no memory for it.
+    pub fn with_room(n: usize) -> Option<Index> {
+        Some(Index {
+            granules: zeros(n)?,
+            places: zeros(n)?,
+            sequences: zeros(n)?,
+        })
+    }
+
+    /// How many records it has.
+    pub fn count(&self) -> usize {
+        self.granules.len()
+    }
+
+    /// The record with this number.
+    pub fn record(&self, i: usize) -> Record {
+        Record {
+            granule: self.granules[i],
+            place: self.places[i],
+            sequence: self.sequences[i],
+        }
+    }
+
+    /// Stores the record with this number.
+    pub fn set(&mut self, i: usize, record: Record) {
+        self.granules[i] = record.granule;
+        self.places[i] = record.place;
+        self.sequences[i] = record.sequence;
+    }
+
+    /// Becomes the index of a stream, which has no more records; or the number of the refusal.
+    pub fn build(&mut self, stream: &[u8]) -> Result<(), u32> {
+        let mut count = 0;
+        // SAFETY: each pointer goes with the length of its own slice, and `count` is the one place
+        // that is written beside the lists; all but the stream are borrowed mutably, so they
+        // overlap nothing.
+        let number = unsafe {
+            ffi::embulgri_index_build(
+                stream.as_ptr(),
+                stream.len(),
+                self.granules.as_mut_ptr(),
+                self.granules.len(),
+                self.places.as_mut_ptr(),
+                self.places.len(),
+                self.sequences.as_mut_ptr(),
+                self.sequences.len(),
+                &mut count,
+            )
+        };
+        accepted(number)?;
+        self.granules.truncate(count as usize);
+        self.places.truncate(count as usize);
+        self.sequences.truncate(count as usize);
+        Ok(())
+    }
+
+    /// Searches for the record from which a reader that is to play the target is fed.
+    pub fn seek(&self, target: u64) -> Sought {
+        let (mut out, mut place) = ([0; 3], 0);
+        // SAFETY: each pointer goes with the length of its own slice, `out` has the three places
+        // that are written, and `place` is one more; both are borrowed mutably, so they overlap
+        // nothing.
+        let number = unsafe {
+            ffi::embulgri_index_seek(
+                self.granules.as_ptr(),
+                self.granules.len(),
+                self.places.as_ptr(),
+                self.places.len(),
+                self.sequences.as_ptr(),
+                self.sequences.len(),
+                target,
+                out.as_mut_ptr(),
+                &mut place,
+            )
+        };
+        let [found, record, probes] = out;
+        match (number, found) {
+            (0, 0) => Sought::Begin { probes },
+            (0, _) => Sought::Record {
+                number: record as usize,
+                probes,
+            },
+            _ => Sought::Refused { number, place },
+        }
+    }
+}
+
+/// A list of so many zeros, in no more memory than these take; none where there is not so much.
+fn zeros<T: Clone + Default>(n: usize) -> Option<Vec<T>> {
+    let mut list = Vec::new();
+    list.try_reserve_exact(n).ok()?;
+    list.resize(n, T::default());
+    Some(list)
+}

@@ -1,0 +1,4 @@
+pub mod Falling
+pub mod Layouts
+pub mod Seeking
+pub mod Alike

@@ -1,0 +1,4 @@
+pub mod Filling
+pub mod Fitting
+pub mod Building
+pub mod Alike
