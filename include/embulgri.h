@@ -2,8 +2,8 @@
  *
  * The static library target/staticlib/libembulgri.a, built by `rt staticlib embulgri`, is for x86-64 Linux.
  *
- * Every function but embulgri_checksum, embulgri_start, embulgri_page_end, embulgri_index_count and those that put lines
- * of a listing or of an index returns a refusal's number, 0 for none. On a refusal every output stays as it was; of
+ * Every function but embulgri_checksum, embulgri_start, embulgri_page_end, embulgri_next_page, embulgri_index_count and
+ * those that put lines of a listing or of an index returns a refusal's number, 0 for none. On a refusal every output stays as it was; of
  * embulgri_feed's carry buffer, of the outputs of embulgri_feed_pages and of embulgri_header_lines, of the page of
  * embulgri_judge and of the place of embulgri_index_seek the comments there say more. A pointer is never null, also where
  * its length is 0. Buffers do not overlap.
@@ -288,6 +288,11 @@ uint32_t embulgri_index_build(const uint8_t *stream, size_t n, uint64_t *granule
 uint32_t embulgri_index_seek(const uint64_t *granules, size_t granules_n, const uint64_t *places, size_t places_n,
                              const uint32_t *sequences, size_t sequences_n, uint64_t target, uint64_t out[3],
                              uint64_t *place);
+
+/* The least place at or after from at which a whole page starts that embulgri_page_read would read, so that neither 3 nor 4
+ * holds; or n, where there is none. It refuses nothing.
+ * Example: of one byte and a right page of 27 bytes after it, from 0 gives 1, and from 2 gives 28. */
+uint64_t embulgri_next_page(const uint8_t *bytes, size_t n, uint64_t from);
 
 /* ---- the lines that the program embulgri prints; these calls are for it, and may change with it */
 

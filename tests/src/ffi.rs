@@ -86,6 +86,7 @@ extern "C" {
         frames_n: usize,
         out: *mut u64,
     ) -> u32;
+    fn embulgri_next_page(bytes: *const u8, n: usize, from: u64) -> u64;
     fn embulgri_judge(stream: *const u8, n: usize, page: *mut u64) -> u32;
     fn embulgri_page_end(bytes: *const u8, n: usize, at: u64) -> u64;
 }
@@ -288,4 +289,9 @@ pub fn page_end(bytes: &[u8], at: u64) -> u64 {
 pub fn judge(stream: &[u8], page: &mut u64) -> u32 {
     // SAFETY: the pointer and the length are those of one slice; `page` is borrowed mutably.
     unsafe { embulgri_judge(stream.as_ptr(), stream.len(), page) }
+}
+
+pub fn next_page(bytes: &[u8], from: u64) -> u64 {
+    // SAFETY: the pointer and the length are those of one slice.
+    unsafe { embulgri_next_page(bytes.as_ptr(), bytes.len(), from) }
 }

@@ -1,8 +1,9 @@
-// A whole stream in a buffer, for programs in C, Rust and Python (RULES.md, 15).
+// A stream in a buffer, whole or damaged, for programs in C, Rust and Python (RULES.md, 15 and 16).
 ghost use mathlib.Core.Path.{_≡_};
 ghost use Rattle.page_crc.specs.Crc.{pageCrc};
 ghost use Rattle.stream.specs.Readings.{readings};
 ghost use Rattle.recording.specs.Judging.{judgeBuffer};
+ghost use Rattle.salvage_search.specs.Search.{nextPage};
 ghost use Rattle.embulgri.specs.Streams.{JudgedIn};
 use recording::Judged;
 use refusal::Refusal;
@@ -27,4 +28,14 @@ pub extern "C" fn embulgri_judge(stream: &[u8], page: &mut u64) -> u32
             number as u32
         }
     }
+}
+
+// Returns the least place at or after `from` at which a whole page with a right checksum starts, or the number of the bytes where
+// there is none (RULES.md, 16; embulgri.h). It stores nothing and refuses nothing.
+// Example: of one byte and a right page of 27 bytes after it, `from` 0 returns 1, and `from` 2 returns 28.
+#[no_mangle]
+pub extern "C" fn embulgri_next_page(bytes: &[u8], from: u64) -> u64
+    ensures { λ r. ⌜ r ≡ nextPage pageCrc (now (bytes .entry)) from ⌝ }
+{
+    salvage_search::next_page(bytes, from as usize) as u64
 }

@@ -63,6 +63,12 @@ module _ (h : PageHeader) (x : ℕ) (l b : Bytes) (sum : total l ≡ length b) w
     body = page-body h x l b;
   }
 
+-- the bytes of a page are
+pub bytes-read : (h : PageHeader) (l b : Bytes) → total l ≡ length b → Fit h → ReadsAs (pageBytes h l b) h l b
+bytes-read h l b sum f =
+    let x : ℕ = pageCrc (page h 0 l b) in
+    rw (page-with-checksum h l b) (page-reads h x l b sum f (page-crc h x l b) (page-crc-fits (page h 0 l b)))
+
 pub reads-back : ReadsBack
 unfolding writeOut
 reads-back h l b out f e =
@@ -76,7 +82,7 @@ reads-back h l b out f e =
 
 -- the bytes of a whole page
 module _ (p : Bytes) (one : isOnePage p ≡ true) where
-  size-same : pageSize (lacingOf p) (bodyOf p) ≡ length p
+  pub size-same : pageSize (lacingOf p) (bodyOf p) ≡ length p
   unfolding sizeOf
   size-same = rw (lacing-length p one, body-length p one) (sym (whole p one))
 
@@ -99,6 +105,15 @@ module _ (p : Bytes) (one : isOnePage p ≡ true) where
         begins,
       )
 
+-- a page with a right checksum is written as it is
+pub page-again : (p : Bytes) → Octets p → isOnePage p ≡ true → pageCrc p ≡ checksumOf p → pageBytes (headerOf p) (lacingOf p) (bodyOf p) ≡ p
+page-again p o one ok =
+    let h : PageHeader = headerOf p in
+    let again : page h (checksumOf p) (lacingOf p) (bodyOf p) ≡ p = rebuilt p one o in
+    let crc : pageCrc (page h 0 (lacingOf p) (bodyOf p)) ≡ checksumOf p =
+    (sym (page-crc h (checksumOf p) (lacingOf p) (bodyOf p)) ∙ ap pageCrc again ∙ ok) in
+    page-with-checksum h (lacingOf p) (bodyOf p) ∙ rw crc again
+
 pub writes-back : WritesBack
 unfolding writeTold writeOut readPage
 writes-back p out h o e low room =
@@ -108,9 +123,7 @@ writes-back p out h o e low room =
     let ok : pageCrc p ≡ checksumOf p = eqb-true _ _ (not-false _ (passed _ _ _ (a .1) .0)) in
     let l : Bytes = lacingOf p in
     let b : Bytes = bodyOf p in
-    let again : page h (checksumOf p) l b ≡ p = rw (r .1) at (rebuilt p one o) in
-    let crc : pageCrc (page h 0 l b) ≡ checksumOf p = sym (page-crc h (checksumOf p) l b) ∙ ap pageCrc again ∙ ok in
-    let same : pageBytes h l b ≡ p = page-with-checksum h l b ∙ rw crc again in
+    let same : pageBytes h l b ≡ p = rw (r .1) at (page-again p o one ok) in
     let size : pageSize l b ≡ length p = size-same p one in
     let clear : firstOf (writeChecks h l b (length out)) ≡ none =
     (writable h l b (length out) (is-body l b (omega (arith, o .below countAt, lacing-length p one)) (sym (body-length p one))) low (omega arith)) in
