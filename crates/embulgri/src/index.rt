@@ -20,9 +20,9 @@ pub extern "C" fn embulgri_index_count(stream: &[u8]) -> u64
 }
 
 // Builds the index of a whole stream. Into `granules`, `places` and `sequences`: of each page on which an audio packet completes
-// its granule position, the place of its first byte and its sequence number. Into `count`: how many they are. Returns 22 where the
-// lists have different lengths; else the number that refuses the stream, 2 to 18 or 24; else 22 where the records do not fit; or 0
-// (RULES.md, 15; embulgri.h).
+// its granule position, the place of its first byte and its sequence number. Into `count`: how many they are. Returns 22 where
+// the lists have different lengths; else the number that refuses the stream, 2 to 18 or 24; else 22 where the records do not
+// fit; or 0 (RULES.md, 15; embulgri.h).
 // Example: no bytes, with three empty lists, return 24.
 #[no_mangle]
 pub extern "C" fn embulgri_index_build(
@@ -64,9 +64,9 @@ fn store_answer(sought: Sought, out: &mut [u64; 3], place: &mut u64) -> u32
     }
 }
 
-// Seeks a position in an index. Into `out`: 1 and the number of the last record at or before the target less 3,840, or 0 and 0 where
-// there is none; and the number of probes. Returns 22 where the lists have different lengths; else 26 where a granule position is
-// below the one before it, and stores the first such place into `place`; or 0 (RULES.md, 15; embulgri.h).
+// Seeks a position in an index. Into `out`: 1 and the number of the last record at or before the target less 3,840, or 0 and 0
+// where there is none; and the number of probes. Returns 22 where the lists have different lengths; else 26 where a granule
+// position is below the one before it, and stores the first such place into `place`; or 0 (RULES.md, 15; embulgri.h).
 // Example: of the granule positions 5,000, 6,000, 7,000, 7,000 and 8,000, with five places and five sequence numbers, the target
 // 10,840 stores 1, 3, 3.
 #[no_mangle]

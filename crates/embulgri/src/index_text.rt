@@ -15,8 +15,8 @@ pub extern "C" fn embulgri_index_first(out: &mut [u8], at: u64) -> u64
 }
 
 // The lines of records, from place `at` of `out` on, as long as the longest line would fit. Into `put`: how many lines, and the
-// place after them (embulgri.h). Example: the granule position 960, the place 5123 and the sequence number 2 put "960 5123 2" and a
-// line feed.
+// place after them (embulgri.h).
+// Example: the granule position 960, the place 5123 and the sequence number 2 put "960 5123 2" and a line feed.
 #[no_mangle]
 pub extern "C" fn embulgri_index_records(
     granules: &[u64],
