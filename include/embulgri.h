@@ -3,10 +3,10 @@
  * The static library target/staticlib/libembulgri.a, built by `rt staticlib embulgri`, is for x86-64 Linux.
  *
  * Every function but embulgri_checksum, embulgri_start, embulgri_page_end, embulgri_next_page, embulgri_index_count and
- * those that put lines of a listing or of an index returns a refusal's number, 0 for none. On a refusal every output stays as it was; of
- * embulgri_feed's carry buffer, of the outputs of embulgri_feed_pages and of embulgri_header_lines, of the page of
- * embulgri_judge and of the place of embulgri_index_seek the comments there say more. A pointer is never null, also where
- * its length is 0. Buffers do not overlap.
+ * those that put lines of a listing or of an index returns a refusal's number, 0 for none. On a refusal every output
+ * stays as it was; of embulgri_feed's carry buffer, of the outputs of embulgri_feed_pages and of embulgri_header_lines, of
+ * the page of embulgri_judge and of the place of embulgri_index_seek the comments there say more. A pointer is never null,
+ * also where its length is 0. Buffers do not overlap.
  */
 #ifndef EMBULGRI_H
 #define EMBULGRI_H
