@@ -6,31 +6,16 @@
  * A position is sought many times in one run; the longest of all positions counts. The status is 1 if building takes more
  * than 1.3 of the time of feeding, a seek more than 2 ms, or more than 20 probes.
  */
-#include <fcntl.h>
-#include <stdint.h>
-#include <stdio.h>
-#include <stdlib.h>
-#include <sys/mman.h>
-#include <sys/stat.h>
-#include <time.h>
+#include "recording.h"
 
-#include "embulgri.h"
-
-enum { CARRY = 61440, PLACES = 1024, POSITIONS = 100, SEEKS = 10, PRE_ROLL = 3840 };
+enum { POSITIONS = 100, SEEKS = 10, PRE_ROLL = 3840 };
 
 static const double MOST_OF_FEEDING = 1.3, MOST_SEEK_MS = 2;
 static const uint64_t MOST_PROBES = 20;
 
-static const uint8_t *stream;
-static size_t size;
+static struct recording week;
 static uint64_t *granules, *places, records;
 static uint32_t *sequences;
-
-static void give_up(const char *what)
-{
-    fprintf(stderr, "index: %s\n", what);
-    exit(3);
-}
 
 static void *room(size_t count, size_t each)
 {
@@ -40,51 +25,12 @@ static void *room(size_t count, size_t each)
     return memory;
 }
 
-/* The recording, all of it in memory. */
-static void map(const char *name)
-{
-    struct stat told;
-    int file = open(name, O_RDONLY);
-    if (file < 0 || fstat(file, &told) != 0)
-        give_up("the recording cannot be opened");
-    size = told.st_size;
-    void *start = mmap(NULL, size, PROT_READ, MAP_PRIVATE | MAP_POPULATE, file, 0);
-    if (start == MAP_FAILED)
-        give_up("the recording cannot be mapped");
-    stream = start;
-}
-
-static double now(void)
-{
-    struct timespec t;
-    clock_gettime(CLOCK_PROCESS_CPUTIME_ID, &t);
-    return t.tv_sec + t.tv_nsec / 1e9;
-}
-
 /* ---- what is timed */
-
-static void feed(void)
-{
-    static uint8_t carry[CARRY];
-    static uint64_t ends[PLACES], lengths[PLACES], kept[PLACES], frames[PLACES];
-    uint64_t state[16], out[4] = { 0, 0, 0, 1 };
-    size_t at = 0;
-    embulgri_start(state);
-    while (out[3] == 1) {
-        uint32_t number = embulgri_feed_pages(state, stream + at, size - at, carry, CARRY, ends, PLACES, lengths, PLACES, kept,
-                                              PLACES, frames, PLACES, out);
-        if (number != 0)
-            give_up("a page is refused");
-        at += out[0];
-    }
-    if (at != size)
-        give_up("the recording is not fed whole");
-}
 
 static void build(void)
 {
     uint64_t count;
-    if (embulgri_index_build(stream, size, granules, records, places, records, sequences, records, &count) != 0)
+    if (embulgri_index_build(week.bytes, week.size, granules, records, places, records, sequences, records, &count) != 0)
         give_up("building the index is refused");
     if (count != records)
         give_up("the index has another number of records");
@@ -105,10 +51,10 @@ static uint64_t seek(uint64_t position)
 
 /* ---- the measures */
 
-static double timed(void (*run)(void))
+static double time_of_building(void)
 {
     double start = now();
-    run();
+    build();
     return now() - start;
 }
 
@@ -117,9 +63,8 @@ static int measure_building(int runs)
 {
     double least_fed = 1e9, least_built = 1e9;
     for (int i = 0; i < runs; i++) {
-        double fed = timed(feed), built = timed(build);
-        least_fed = fed < least_fed ? fed : least_fed;
-        least_built = built < least_built ? built : least_built;
+        least_fed = lesser(least_fed, time_of_feeding(week));
+        least_built = lesser(least_built, time_of_building());
     }
     double part = least_built / least_fed;
     printf("embulgri_feed_pages  %8.3f s %8.0f ns a page\n", least_fed, least_fed * 1e9 / records);
@@ -141,8 +86,7 @@ static int measure_seeking(int runs)
                 uint64_t probes = seek(i * step);
                 most_probes = probes > most_probes ? probes : most_probes;
             }
-            double each = (now() - start) / SEEKS;
-            least = each < least ? each : least;
+            least = lesser(least, (now() - start) / SEEKS);
         }
         longest = least > longest ? least : longest;
     }
@@ -156,15 +100,15 @@ int main(int argc, char **argv)
     if (argc != 4)
         give_up("usage: index STREAM.opus PAGES RUNS");
     int runs = atoi(argv[3]);
-    map(argv[1]);
-    records = embulgri_index_count(stream, size);
+    week = map(argv[1]);
+    records = embulgri_index_count(week.bytes, week.size);
     if (records == 0 || records != strtoull(argv[2], NULL, 10) || runs < 1)
         give_up("the recording has another number of pages");
     granules = room(records, sizeof *granules);
     places = room(records, sizeof *places);
     sequences = room(records, sizeof *sequences);
     build();
-    printf("%d records, %.1f MB, %.1f hours; processor time, the least of %d runs\n", (int)records, size / 1e6,
+    printf("%d records, %.1f MB, %.1f hours; processor time, the least of %d runs\n", (int)records, week.size / 1e6,
            granules[records - 1] / 48000.0 / 3600, runs);
     int built = measure_building(runs), sought = measure_seeking(runs);
     if (!built || !sought)

@@ -3,10 +3,11 @@
  * The static library target/staticlib/libembulgri.a, built by `rt staticlib embulgri`, is for x86-64 Linux.
  *
  * Every function but embulgri_checksum, embulgri_start, embulgri_page_end, embulgri_next_page, embulgri_index_count and
- * those that put lines of a listing or of an index returns a refusal's number, 0 for none. On a refusal every output
- * stays as it was; of embulgri_feed's carry buffer, of the outputs of embulgri_feed_pages and of embulgri_header_lines, of
- * the page of embulgri_judge and of the place of embulgri_index_seek the comments there say more. A pointer is never null,
- * also where its length is 0. Buffers do not overlap.
+ * those that put lines of a listing, of an index or of a salvage returns a refusal's number, 0 for none. On a refusal
+ * every output stays as it was; of embulgri_feed's carry buffer, of the outputs of embulgri_feed_pages and of
+ * embulgri_header_lines, of the page of embulgri_judge, of the place of embulgri_index_seek and of the work list of
+ * embulgri_salvage the comments there say more. A pointer is never null, also where its length is 0. Buffers do not
+ * overlap.
  */
 #ifndef EMBULGRI_H
 #define EMBULGRI_H
@@ -294,6 +295,30 @@ uint32_t embulgri_index_seek(const uint64_t *granules, size_t granules_n, const 
  * Example: of one byte and a right page of 27 bytes after it, from 0 gives 1, and from 2 gives 28. */
 uint64_t embulgri_next_page(const uint8_t *bytes, size_t n, uint64_t from);
 
+/* Salvages a stream from n damaged bytes. Its pages are searched for as embulgri_next_page finds them, each from the end of
+ * the one before; those with the serial of the first one that is marked first are the stream. A break lies between two of
+ * them that are not numbered one after the other. Packets that a break cuts are removed on all their pages, with the
+ * continued marks, the pages are numbered from 0, and their checksums are made again. They are fed to a reader just
+ * started; the first page that it refuses counts as missing, and all is done again without it, until none is refused.
+ * What is left, a whole stream by embulgri_judge, is written to the start of out. A whole stream comes out as it is.
+ * what, places and sizes: one place of each for each line of what was skipped and changed, in the order of the bytes:
+ *   0   skip: so many bytes from this place on are in no page that was kept
+ *   1   number: the page that starts at this place has another number, of 4 bytes
+ *   2   mark: it is no longer marked continued, in 1 byte
+ *   3   cut: a piece of a packet, of so many bytes, was removed from it; a piece at its start comes before one at its end
+ * counts: how many bytes and how many lines are written. What lies past them in out and in the lists stays as it was.
+ * work: room for the places of pages. What it has at the end, also under a refusal, means nothing.
+ * An out_n of n, a work_n of n / 27, and a what_n, places_n and sizes_n of n / 7 + 1 always suffice.
+ *   1   work_n is below n / 27; nothing else is looked at
+ *   24  not 1, and no page is marked first, or what is left of the stream lacks a whole header
+ *   22  neither, and out_n is below the number of bytes, or what_n, places_n or sizes_n below the number of lines
+ *   0   none of these; the bytes, the lines and counts are stored
+ * Example: the two header pages of a stream, of 47 and 44 bytes, with one byte x before them store 0, 0, 1 in the first
+ * places of the three lists and 91 and 1 in counts. No bytes return 24. */
+uint32_t embulgri_salvage(const uint8_t *bytes, size_t n, uint64_t *work, size_t work_n, uint8_t *out, size_t out_n,
+                          uint64_t *what, size_t what_n, uint64_t *places, size_t places_n,
+                          uint64_t *sizes, size_t sizes_n, uint64_t counts[2]);
+
 /* ---- the lines that the program embulgri prints; these calls are for it, and may change with it */
 
 /* Puts the line above all packets of a listing into out from place at on. It returns the place after it, or at itself
@@ -347,6 +372,10 @@ uint64_t embulgri_seek_begin(uint64_t probes, uint8_t *out, size_t out_n, uint64
 /* Puts the line of a refusal with its place, in the same way.
  * Example: the number 26 and the place 3 put "refused 26 place 3" and a line feed. */
 uint64_t embulgri_seek_refused(uint64_t number, uint64_t place, uint8_t *out, size_t out_n, uint64_t at);
+
+/* Puts a line of what salvage skipped or changed, in the same way: "skip" for 0, "number" for 1, "mark" for 2 or "cut" for
+ * any other number, the place and the bytes. Example: 3, 5123 and 255 put "cut 5123 255" and a line feed. */
+uint64_t embulgri_salvage_line(uint64_t what, uint64_t place, uint64_t bytes, uint8_t *out, size_t out_n, uint64_t at);
 
 /* Writes all lines that show an identification header packet and a comment header packet to the start of out, and their
  * length to *written.

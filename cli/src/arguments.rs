@@ -23,6 +23,8 @@ pub enum Task {
         position: u64,
         listing: Option<Name>,
     },
+    /// Save what can be saved of a damaged one to a file.
+    Salvage { input: Name, out: OsString },
     /// Print this text.
     Print(String),
     /// Say how the program is used, since nothing was asked for.
@@ -37,6 +39,11 @@ struct Most {
 
 const ONE_WORD: Most = Most {
     words: 1,
+    index: false,
+};
+
+const TWO_WORDS: Most = Most {
+    words: 2,
     index: false,
 };
 
@@ -64,6 +71,7 @@ pub fn task_of(words: &[OsString]) -> Result<Task, Trouble> {
         b"tags" => file_task(rest, Task::Tags, help::TAGS),
         b"index" => file_task(rest, Task::Index, help::INDEX),
         b"seek" => seek_task(rest),
+        b"salvage" => salvage_task(rest),
         b"explain" => explain_task(rest),
         b"--help" | b"-h" => Ok(Task::Print(help::ALL.into())),
         b"--version" => Ok(Task::Print(help::version())),
@@ -103,6 +111,25 @@ fn seek_task(words: &[OsString]) -> Result<Task, Trouble> {
         position,
         listing,
     })
+}
+
+/// To salvage the first word's file to the second's.
+fn salvage_task(words: &[OsString]) -> Result<Task, Trouble> {
+    let Rest::Words { mut plain, .. } = rest_of(words, TWO_WORDS)? else {
+        return Ok(Task::Print(help::SALVAGE.into()));
+    };
+    match (plain.pop(), plain.pop()) {
+        (Some(out), Some(_)) if out == "-" => Err(Trouble::new(
+            "what is saved is written to a file; see embulgri salvage --help",
+        )),
+        (Some(out), Some(input)) => Ok(Task::Salvage {
+            input: named(input),
+            out,
+        }),
+        _ => Err(Trouble::new(
+            "salvage takes two files, IN and OUT; see embulgri salvage --help",
+        )),
+    }
 }
 
 /// To print what a number means.

@@ -61,6 +61,29 @@ extern "C" {
         out: *mut u64,
         place: *mut u64,
     ) -> u32;
+    pub fn embulgri_salvage(
+        bytes: *const u8,
+        n: usize,
+        work: *mut u64,
+        work_n: usize,
+        out: *mut u8,
+        out_n: usize,
+        what: *mut u64,
+        what_n: usize,
+        places: *mut u64,
+        places_n: usize,
+        sizes: *mut u64,
+        sizes_n: usize,
+        counts: *mut u64,
+    ) -> u32;
+    pub fn embulgri_salvage_line(
+        what: u64,
+        place: u64,
+        bytes: u64,
+        out: *mut u8,
+        out_n: usize,
+        at: u64,
+    ) -> u64;
     pub fn embulgri_list_first(out: *mut u8, out_n: usize, at: u64) -> u64;
     pub fn embulgri_list_total(state: *const u64, out: *mut u8, out_n: usize, at: u64) -> u64;
     pub fn embulgri_list_refused(

@@ -12,6 +12,9 @@ usage: embulgri list [FILE]   one line a packet: its end stamp, its length, its
                               granule position, place and sequence number
        embulgri seek [FILE] POSITION [--index FILE]
                               the page from which to read to play from POSITION
+       embulgri salvage IN OUT
+                              what can be saved of a damaged recording, to OUT;
+                              one line for each thing skipped or changed
        embulgri explain N     what the number of a refusal means
        embulgri --help        this text; embulgri list --help says more of list,
                               and so on
@@ -118,13 +121,37 @@ exit status: 0 answered, 2 a page or the index was refused, 3 trouble, also
 where a listing is no index, or not that of the recording
 ";
 
+/// What `salvage` does and prints.
+pub const SALVAGE: &str = "\
+usage: embulgri salvage IN OUT
+
+Saves what it can of a damaged Ogg Opus recording: the whole pages with a right
+checksum of one stream, that of the first page that is marked first. Packets of
+which a page is missing are removed, and the pages are numbered anew, so that OUT
+is a recording that embulgri list accepts. Sound is not changed. One line is
+printed for each change, \"what place bytes\", in the order of the input:
+  skip    these bytes are in no page that was kept
+  number  the page at this place has another number
+  mark    it is no longer marked as one that continues a packet
+  cut     so many bytes of a packet were removed from it
+Places are those of IN, counted from 0. A whole recording comes out as it is,
+with no lines. Standard error says in words what was saved.
+
+Where there is no page that is marked first, or a header is lost, \"refused 24\"
+is the only line. OUT is written beside its place and renamed when it is
+complete; without that it is left as it was. Where IN is \"-\", standard input is
+read. IN is mapped, or read into memory whole, and OUT is made in memory.
+
+exit status: 0 saved, with changes or without, 2 refused, 3 trouble
+";
+
 /// What `explain` prints.
 pub const EXPLAIN: &str = "\
 usage: embulgri explain N
 
 Says what the number N of \"refused N page K\" means. There are numbers from 1 to
 24, and 26 and 30. Those from 2 to 18 end a listing, and these, 24 and 26 are
-given by index and seek; the others are told to programs that call the library.
+given by index and seek, 24 by salvage too; the others are told to programs that call the library.
 
 exit status: 0 said, 3 there is no such number
 ";

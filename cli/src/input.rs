@@ -2,11 +2,12 @@
 
 use crate::mapping::Mapping;
 use crate::trouble::Trouble;
-use std::ffi::OsString;
+use std::ffi::{OsStr, OsString};
 use std::fs::File;
 use std::io::{ErrorKind, Read, Seek, SeekFrom};
 use std::mem::ManuallyDrop;
 use std::os::fd::FromRawFd;
+use std::os::unix::fs::MetadataExt;
 
 /// What is read of an input that is not mapped: a page, which has at most 65,307 bytes, and more.
 const ROOM: usize = 262_144;
@@ -19,6 +20,8 @@ pub struct Input {
     to: usize,
     /// The bytes before place `from` that were fed.
     fed: u64,
+    /// What tells its file from others.
+    identity: (u64, u64),
 }
 
 enum Source {
@@ -50,6 +53,8 @@ impl Input {
     /// standard input is not the program's to close.
     fn of(name: String, file: File) -> Input {
         let file = ManuallyDrop::new(file);
+        let told = file.metadata();
+        let identity = told.map_or((0, 0), |told| (told.dev(), told.ino()));
         let (source, from, to) = match mapped(&file) {
             Some((mapping, from)) => {
                 let to = mapping.bytes().len();
@@ -63,12 +68,21 @@ impl Input {
             from,
             to,
             fed: 0,
+            identity,
         }
     }
 
     /// The input's name, for messages.
     pub fn name(&self) -> &str {
         &self.name
+    }
+
+    /// Whether it is the file with this name.
+    pub fn is_file(&self, name: &OsStr) -> bool {
+        let Ok(other) = std::fs::metadata(name) else {
+            return false;
+        };
+        (other.dev(), other.ino()) == self.identity
     }
 
     /// The bytes at hand that are not fed yet.

@@ -8,6 +8,8 @@ pub mod lines;
 pub mod pages;
 pub mod reader;
 pub mod records;
+mod reserved;
+pub mod salvaging;
 
 /// The most bytes that a packet has, and what a carry buffer needs.
 pub const PACKET_MAX: usize = 61_440;

@@ -3,6 +3,7 @@
 
 use crate::reader::Reader;
 use crate::records::{Index, Record};
+use crate::salvaging::Change;
 use crate::{accepted, ffi};
 use std::ops::Range;
 
@@ -163,5 +164,20 @@ pub fn put_index_refused(number: u32, place: u64, out: &mut [u8], at: usize) -> 
     // SAFETY: the pointer and the length are those of one slice.
     unsafe {
         ffi::embulgri_seek_refused(number, place, out.as_mut_ptr(), out.len(), at as u64) as usize
+    }
+}
+
+/// The line of something that salvage skipped or changed.
+pub fn put_change(change: &Change, out: &mut [u8], at: usize) -> usize {
+    // SAFETY: the pointer and the length are those of one slice.
+    unsafe {
+        ffi::embulgri_salvage_line(
+            change.what,
+            change.place,
+            change.bytes,
+            out.as_mut_ptr(),
+            out.len(),
+            at as u64,
+        ) as usize
     }
 }

@@ -10,7 +10,8 @@ const MEANINGS: [Meaning; 26] = [
         1,
         "ShortRoom",
         "the carry buffer has less than 61,440 bytes, or one of the four lists fewer than \
-         255 places",
+         255 places; or the work list of a salvage has fewer places than a 27th of the \
+         input's bytes",
     ),
     Meaning(
         2,
@@ -124,7 +125,8 @@ const MEANINGS: [Meaning; 26] = [
     Meaning(
         22,
         "ShortOutput",
-        "the output is shorter than what is to be written",
+        "the output, or a list, is shorter than what is to be written to it, or the lists of \
+         an index differ in length",
     ),
     Meaning(
         23,
@@ -134,7 +136,8 @@ const MEANINGS: [Meaning; 26] = [
     Meaning(
         24,
         "HeadersIncomplete",
-        "the stream ends before its comment header is complete",
+        "the stream ends before its comment header is complete; or, where it is salvaged, no \
+         page is marked first or a header is lost",
     ),
     Meaning(
         26,

@@ -57,6 +57,11 @@ impl Reader {
         self.state[2] as usize
     }
 
+    /// The samples of the holes in the stream so far.
+    pub fn hole(&self) -> u64 {
+        self.state[13]
+    }
+
     /// The first n bytes of the carry buffer: the comment header, on the page that completes it.
     pub fn carried(&self, n: usize) -> &[u8] {
         &self.carry[..n.min(self.carry.len())]

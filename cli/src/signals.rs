@@ -5,7 +5,9 @@ use std::ptr;
 
 const SIGBUS: c_int = 7;
 const SIGPIPE: c_int = 13;
+const SIGXFSZ: c_int = 25;
 const SIG_DFL: usize = 0;
+const SIG_IGN: usize = 1;
 
 /// `struct sigaction`, as the C library has it.
 #[repr(C)]
@@ -24,10 +26,12 @@ extern "C" {
 
 /// A closed pipe ends the program by SIGPIPE, also where whoever started it ignores that signal. A
 /// mapped file that gets shorter while it is read, or that the disk cannot give, ends it with a
-/// message and status 3; without that, SIGBUS would end it. Lines that wait then are not written.
+/// message and status 3; without that, SIGBUS would end it. Lines that wait then are not written. A
+/// file that gets longer than is allowed fails to be written, as on a full disk.
 pub fn prepare() {
     set(SIGPIPE, SIG_DFL);
     set(SIGBUS, on_bus as extern "C" fn(c_int) as usize);
+    set(SIGXFSZ, SIG_IGN);
 }
 
 /// Lets a signal be handled so.
@@ -39,7 +43,7 @@ fn set(signal: c_int, handler: usize) {
         restorer: 0,
     };
     // SAFETY: the structure is laid out as the C library reads it, and the handler is the default
-    // one or `on_bus`, which calls only what a handler may call.
+    // one, none, or `on_bus`, which calls only what a handler may call.
     unsafe { sigaction(signal, &action, ptr::null_mut()) };
 }
 

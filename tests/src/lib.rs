@@ -1,7 +1,7 @@
 //! What the tests of the Embulgri library share. The library is called over its C interface and
 //! held to an independent implementation, [`ogg`], [`opus`], [`head`], [`tags`], [`feeding`],
-//! [`buffer_pages`], [`judging`], [`index`], [`lines`], [`header_text`] and [`clock`], on inputs from a
-//! deterministic generator.
+//! [`buffer_pages`], [`judging`], [`index`], [`salvage`], [`lines`], [`header_text`] and [`clock`], on
+//! inputs from a deterministic generator.
 
 pub mod accepted;
 pub mod buffer_inputs;
@@ -23,6 +23,7 @@ pub mod feeding;
 pub mod ffi;
 pub mod ffi_index;
 pub mod ffi_lines;
+pub mod ffi_salvage;
 pub mod head;
 pub mod head_damages;
 pub mod head_demands;
@@ -52,6 +53,13 @@ pub mod reader;
 pub mod reading;
 pub mod recording;
 pub mod recording_inputs;
+pub mod salvage;
+pub mod salvage_calls;
+pub mod salvage_damages;
+pub mod salvage_inputs;
+pub mod salvage_pages;
+pub mod salvage_stream;
+pub mod salvage_tidy;
 pub mod stamps;
 pub mod tags;
 pub mod tags_calls;

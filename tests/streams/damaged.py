@@ -1,6 +1,7 @@
-"""Streams with damage, for the tests of the programs: a bit changed, cut off, pages moved, streams joined."""
+"""Streams with damage, for the tests of the programs: a bit changed, cut off, pages moved, streams joined, and several
+damages at random."""
 from made import short_stream, wrong_ambisonic_streams, wrong_streams, wrong_version_streams
-from pages import checksum, cut
+from pages import Refused, checksum, cut, read_page, write_page
 from programs import ROOT
 
 
@@ -67,3 +68,50 @@ def groups():
     yield long, cut_off(long, range(0, len(long), 223))
     yield long, pages_moved(long)
     yield long, joined(long, short)
+
+
+# ---- damages at random, each to the page at a place of a list of pages
+
+def lose(pages, at, random):
+    pages[at] = b''
+
+
+def double(pages, at, random):
+    pages[at] *= 2
+
+
+def exchange(pages, at, random):
+    other = random.randrange(at, len(pages))
+    pages[at], pages[other] = pages[other], pages[at]
+
+
+def change(pages, at, random):
+    """Some bytes one after the other."""
+    start, count = random.randrange(len(pages[at]) + 1), random.choice([1, 1, 16, 512])
+    rest = pages[at][start:]
+    pages[at] = pages[at][:start] + random.randbytes(min(count, len(rest))) + rest[count:]
+
+
+def shorten(pages, at, random):
+    pages[at] = pages[at][:random.randrange(len(pages[at]) + 1)]
+
+
+def put_noise(pages, at, random):
+    pages[at] = random.choice([b'', b'OggS', b'OggS\0', pages[at][:27]]) + random.randbytes(random.randrange(600)) + pages[at]
+
+
+def put_stranger(pages, at, random):
+    """A page of another stream."""
+    try:
+        pages[at] += write_page(read_page(pages[at])._replace(serial=random.getrandbits(32)))
+    except Refused:
+        put_noise(pages, at, random)
+
+
+def damaged_at_random(data, random, spared, most=8):
+    """A stream with a few damages, its first pages spared."""
+    pages = cut(data)
+    for _ in range(random.randint(1, most)):
+        one = random.choice([lose, double, exchange, change, shorten, put_noise, put_stranger])
+        one(pages, random.randrange(spared, len(pages)), random)
+    return b''.join(pages)

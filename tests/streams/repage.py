@@ -5,6 +5,7 @@ usage: tests/streams/repage.py VALUES [START [HOLE [TRIM]]] < FILE > FILE
 A page gets VALUES lacing values. Granule positions start at START, 0 if not given, and from the middle of the pages on
 they are HOLE higher. The last page is marked last and trims as many samples as the stream did, and TRIM more.
 """
+import itertools
 import sys
 
 from listing import read
@@ -45,7 +46,7 @@ def repage(data, values, start=0, hole=0, trim=0):
     _, comments, *audio = packets(data)
     pages = [first] + paged(pieces(comments, 0), values, first.serial, 1)
     lengths = [entry.dur for entry in reader.entries]
-    ends = [start + sum(lengths[:i + 1]) for i in range(len(lengths))]
+    ends = [start + length for length in itertools.accumulate(lengths)]
     sound = paged([piece for packet, end in zip(audio, ends) for piece in pieces(packet, end)],
                   values, first.serial, len(pages))
     middle = len(sound) // 2

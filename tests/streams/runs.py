@@ -29,11 +29,13 @@ def run(name, *words, **options):
 
 
 def must(name, words, printed, status, message=b'', **options):
-    """A run prints this, ends with this status, and says something unless that is 0; the message is a part of it."""
+    """A run prints this, ends with this status, and says something, of which the message is a part; nothing where the status
+    is 0 and there is no message."""
     done = run(name, *words, **options)
     if done is None:
         return
-    if done[0] != printed or done[2] != status or bool(done[1]) != (status != DONE) or message not in done[1]:
+    says = status != DONE or message != b''
+    if done[0] != printed or done[2] != status or bool(done[1]) != says or message not in done[1]:
         fault(name, f'prints {done[0][-80:]!r}, says {done[1]!r}, status {done[2]}, not {printed[-80:]!r}, '
                     f'{message!r}, {status}')
 

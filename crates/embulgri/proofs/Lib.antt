@@ -2,3 +2,4 @@ pub mod Answers
 pub mod Readers
 pub mod Judging
 pub mod Indexes
+pub mod Savings

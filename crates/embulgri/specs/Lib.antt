@@ -3,3 +3,4 @@ pub mod Feeding
 pub mod Lines
 pub mod Streams
 pub mod Index
+pub mod Saving

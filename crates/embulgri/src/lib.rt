@@ -28,6 +28,7 @@ pub mod heads;
 pub mod index;
 pub mod index_text;
 pub mod lines;
+pub mod saving;
 pub mod streams;
 
 // Returns the checksum of the bytes as they are (RULES.md, 3; embulgri.h). It stores nothing and refuses nothing.

@@ -1,14 +1,15 @@
 -- Feeding in stages (RULES.md, 7): 1 and 2, then 3 to 8, which give the core that expects the page, then the rest. Assumes
 -- nothing.
-use Prim.Native.Nat.{ℕ}
+use Prim.Native.Nat.{ℕ, _≤_}
 use mathlib.Core.Path.{_≡_}
 use mathlib.Core.Bool.{true, false}
 use mathlib.Core.List.{List, [], _∷_, _++_}
+use lib.ListN.{length}
 use Rattle.octets.specs.Octets.{Bytes}
 use Rattle.refusal.specs.declared.Refusal.the-variants.{ShortRoom, AfterEnd}
 use Rattle.refusal.specs.Checks.{Check, _when_, firstOf}
 use Rattle.refusal.specs.Numbers.{numberOf}
-use Rattle.refusal.specs.Told.{Told, refuses}
+use Rattle.refusal.specs.Told.{Told, gives, refuses}
 use Rattle.page_layout.specs.declared.PageHeader.{PageHeader}
 use Rattle.page_layout.specs.Page.{lacingOf, bodyOf}
 use Rattle.page_size.specs.Size.{isOnePage}
@@ -63,3 +64,19 @@ pub record Awaits (R : Readings) (core due : Core) (h : PageHeader) (tally : Tal
 abbrev pub DueIs : Due → Readings → Core → Tally → Lent → Bytes → Type 0
 DueIs (Awaited due h) R core tally m b = Awaits R core due h tally m b
 DueIs (Refused why) R core tally m b = Feeds R (readerOf core tally) b m (refuses (numberOf why)) m
+
+-- the same page by its lacing values l and its body `rest`; 1 is not given
+pub record AwaitsParts (R : Readings) (core due : Core) (h : PageHeader) (tally : Tally) (m : Lent)
+    (b l rest : Bytes) : Type 0 where
+  pub awaits : Awaits R core due h tally m b
+  pub room : isShort m ≡ false
+  pub lacing : l ≡ lacingOf b
+  pub body : rest ≡ bodyOf b
+  pub few : length l ≤ 255
+
+-- the bytes b are a page by 3 and 4, with the header h, the lacing values l and the body `rest`
+pub record PartsOf (crc : Bytes → ℕ) (b : Bytes) (h : PageHeader) (l rest : Bytes) : Type 0 where
+  pub reads : readPage crc b ≡ gives h
+  pub lacing : l ≡ lacingOf b
+  pub body : rest ≡ bodyOf b
+  pub few : length l ≤ 255

@@ -10,7 +10,8 @@ ghost use Rattle.stream.specs.Readings.{readings};
 ghost use Rattle.stream.specs.Feed.{readerOf, Taken, Feeds, toldPage};
 ghost use Rattle.stream.specs.Lent.{Lent, atEntry, atExit};
 ghost use Rattle.feed_fields.specs.Checked.{found};
-ghost use Rattle.feed_page.specs.Stages.{unreadChecks, Unrefused, DueIs};
+ghost use Rattle.stream.specs.declared.Core.{Core as Before};
+ghost use Rattle.feed_page.specs.Stages.{unreadChecks, Unrefused, DueIs, AwaitsParts, PartsOf};
 ghost use Rattle.page_crc.specs.Crc.{pageCrc};
 ghost use Rattle.page_crc_tables.specs.Table.{entryIn};
 ghost use Rattle.page_crc.specs.Sliced.{pageSliced};
@@ -102,6 +103,43 @@ fn of_header(fed: HeaderFed) -> PageFed
     }
 }
 
+// 9 to 19 of a page by its parts; `due` is the core that expects it.
+fn feed_due(
+    due: Core,
+    tally: Tally,
+    h: PageHeader,
+    lacing: &[u8],
+    body: &[u8],
+    carry: &mut [u8],
+    ends: &mut [u64],
+    lengths: &mut [u64],
+    kept: &mut [u64],
+    frames: &mut [u64],
+) -> PageFed
+    ensures { λ r. ⌜ ((crc : Bytes → ℕ) (core : Before) (b : Bytes) →
+        AwaitsParts (readings crc) core due h tally (atEntry carry ends lengths kept frames) b
+        (now (lacing .entry)) (now (body .entry)) →
+        Feeds (readings crc) (readerOf core tally) b
+        (atEntry carry ends lengths kept frames) (toldPage r) (atExit carry ends lengths kept frames)) ⌝ }
+{
+    let phase = due.phase;
+    if feed_phase::is_audio(phase) {
+        return of_audio(feed_audio::feed_audio(
+            due,
+            tally,
+            h,
+            lacing,
+            body,
+            carry,
+            ends,
+            lengths,
+            kept,
+            frames,
+        ));
+    }
+    of_header(feed_header::feed_header(due, tally, h, lacing, body, carry))
+}
+
 // 3 to 19 of the page that was read so.
 fn feed_read(
     core: Core,
@@ -123,22 +161,18 @@ fn feed_read(
         Due::Page(due, h) => {
             let lacing = page_layout::lacing_of(page);
             let body = page_layout::body_of(page);
-            let phase = due.phase;
-            if feed_phase::is_audio(phase) {
-                return of_audio(feed_audio::feed_audio(
-                    due,
-                    tally,
-                    h,
-                    lacing,
-                    body,
-                    carry,
-                    ends,
-                    lengths,
-                    kept,
-                    frames,
-                ));
-            }
-            of_header(feed_header::feed_header(due, tally, h, lacing, body, carry))
+            feed_due(
+                due,
+                tally,
+                h,
+                lacing,
+                body,
+                carry,
+                ends,
+                lengths,
+                kept,
+                frames,
+            )
         }
         Due::Refused(why) => PageFed::Refused(why),
     }
@@ -211,6 +245,56 @@ pub fn feed_core_with(
             let read = page_reader::read_page_with(tables, page);
             feed_read(core, tally, read, page, carry, ends, lengths, kept, frames)
         }
+        Checked::Refused(why) => PageFed::Refused(why),
+    }
+}
+
+// Feeds a page that is known to pass 3 and 4, by its parts: its fields, its lacing values and its body. Of any bytes that are
+// a page of these parts, by any checksum, this is feeding those bytes, with the answer, the carry buffer and the lists of
+// `feed_core`; no checksum is worked out. Parts that are of no page are judged too, and nothing is said of the answer
+// (RULES.md, 7).
+// Example: the fields, the lacing values and the body of a right page give the answer that `feed_core` gives of the page.
+pub fn feed_parts(
+    core: Core,
+    tally: Tally,
+    h: PageHeader,
+    lacing: &[u8],
+    body: &[u8],
+    carry: &mut [u8],
+    ends: &mut [u64],
+    lengths: &mut [u64],
+    kept: &mut [u64],
+    frames: &mut [u64],
+) -> PageFed
+    ensures { λ r. ⌜ ((crc : Bytes → ℕ) (b : Bytes) →
+        PartsOf crc b h (now (lacing .entry)) (now (body .entry)) →
+        Feeds (readings crc) (readerOf core tally) b
+        (atEntry carry ends lengths kept frames) (toldPage r) (atExit carry ends lengths kept frames)) ⌝ }
+{
+    let before = core.phase;
+    match check_unread(
+        before,
+        carry.len(),
+        ends.len(),
+        lengths.len(),
+        kept.len(),
+        frames.len(),
+    ) {
+        Checked::Passed => match page_due(core, PageRead::Page(h)) {
+            Due::Page(due, fields) => feed_due(
+                due,
+                tally,
+                fields,
+                lacing,
+                body,
+                carry,
+                ends,
+                lengths,
+                kept,
+                frames,
+            ),
+            Due::Refused(why) => PageFed::Refused(why),
+        },
         Checked::Refused(why) => PageFed::Refused(why),
     }
 }

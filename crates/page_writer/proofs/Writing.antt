@@ -1,11 +1,12 @@
 -- The ways of writing a page, by its tests, and what the copies make of the output. Assumes nothing.
 use mathlib.Core.Path.{_≡_, refl, sym, ap, _∙_}
-use mathlib.Core.Bool.{true, false}
-use mathlib.Core.List.{[], _++_}
+use mathlib.Core.Bool.{Bool, true, false, not}
+use mathlib.Core.List.{[], _∷_, _++_}
 use mathlib.Core.Option.{none, some}
 use Prim.Native.Nat.{ℕ, _+_, _≤_, _<_}
 use native.Mathlib.Omega.{arith}
 use borrow.Author.Tests.{lt-ltb, le-ltb}
+use lib.Dec.{ltb}
 use lib.ListN.{length, take, drop, length-append}
 use lib.Seq.{take-at, drop-at}
 use Rattle.octets.specs.Octets.{Bytes, copied}
@@ -13,40 +14,71 @@ use Rattle.octets.specs.Numbers.{octets}
 use Rattle.octets.proofs.Copying.{copied-next, length-copied}
 use Rattle.refusal.specs.declared.Refusal.{Refusal}
 use Rattle.refusal.specs.declared.Refusal.the-variants.{ShortOutput, UnfitFields}
-use Rattle.refusal.specs.Checks.{firstOf}
+use Rattle.refusal.specs.Checks.{_when_, firstOf}
 use Rattle.page_crc.specs.Crc.{pageCrc}
 use Rattle.page_lacing.specs.Lacing.{isBody}
 use Rattle.page_layout.specs.declared.PageHeader.{PageHeader}
 use Rattle.page_layout.specs.Places.{checksumAt, lacingAt}
+use Rattle.page_writer.specs.declared.PageWritten.{PageWritten}
 use Rattle.page_writer.specs.declared.PageWritten.the-variants.{Bytes as Written, Refused}
-use Rattle.page_writer.specs.Writing.{withChecksum, startOf, pageBytes, pageSize, writeChecks, writeTold, writeOut, Wrote}
+use Rattle.page_writer.specs.Writing.{withChecksum, startOf, pageBytes, pageSize, anyChecks, writeChecks, writeTold, writeOut, writeAnyTold, writeAnyOut, Wrote, WroteAny}
+
+-- ---- any flags
+
+module _ (l b : Bytes) (n : ℕ) where
+  pub no-body : isBody l b ≡ false → firstOf (anyChecks l b n) ≡ some UnfitFields
+  unfolding firstOf
+  no-body e = rw e
+
+  pub short-output : isBody l b ≡ true → n < pageSize l b → firstOf (anyChecks l b n) ≡ some ShortOutput
+  unfolding firstOf
+  short-output e r = rw (e, lt-ltb n (pageSize l b) r)
+
+  pub any-writable : isBody l b ≡ true → pageSize l b ≤ n → firstOf (anyChecks l b n) ≡ none
+  unfolding firstOf
+  any-writable e r = rw (e, le-ltb n (pageSize l b) r)
+
+module _ (h : PageHeader) (l b out : Bytes) where
+  pub refused : (w : Refusal) → firstOf (anyChecks l b (length out)) ≡ some w → WroteAny h l b out (Refused w) out
+  unfolding writeAnyTold writeAnyOut
+  refused w e = record { told = rw e; output = rw e }
+
+  pub wrote : firstOf (anyChecks l b (length out)) ≡ none → WroteAny h l b out (Written (pageSize l b)) (copied out 0 (pageBytes h l b))
+  unfolding writeAnyTold writeAnyOut
+  wrote e = record { told = rw e; output = rw e }
+
+-- ---- flags of at most 7
 
 module _ (h : PageHeader) (l b : Bytes) where
   module _ (n : ℕ) where
-    pub no-body : isBody l b ≡ false → firstOf (writeChecks h l b n) ≡ some UnfitFields
+    -- flags above 7 are refused, whatever the body
+    wrong-flags : 7 < h .flags → firstOf (writeChecks h l b n) ≡ some UnfitFields
     unfolding firstOf
-    no-body e = rw e
+    wrong-flags f = by (isBody l b)
+      where
+        by : (t : Bool)
+            → firstOf (UnfitFields when not t ∷ UnfitFields when ltb 7 (h .flags) ∷ ShortOutput when ltb n (pageSize l b) ∷ []) ≡ some UnfitFields
+        by true = rw (lt-ltb 7 (h .flags) f)
+        by false = refl
 
-    pub wrong-flags : isBody l b ≡ true → 7 < h .flags → firstOf (writeChecks h l b n) ≡ some UnfitFields
+    -- the other checks are those for any flags
+    low-flags : h .flags ≤ 7 → firstOf (writeChecks h l b n) ≡ firstOf (anyChecks l b n)
     unfolding firstOf
-    wrong-flags e f = rw (e, lt-ltb 7 (h .flags) f)
-
-    pub short-output : isBody l b ≡ true → h .flags ≤ 7 → n < pageSize l b → firstOf (writeChecks h l b n) ≡ some ShortOutput
-    unfolding firstOf
-    short-output e f r = rw (e, le-ltb 7 (h .flags) f, lt-ltb n (pageSize l b) r)
+    low-flags f = rw (le-ltb 7 (h .flags) f)
 
     pub writable : isBody l b ≡ true → h .flags ≤ 7 → pageSize l b ≤ n → firstOf (writeChecks h l b n) ≡ none
-    unfolding firstOf
-    writable e f r = rw (e, le-ltb 7 (h .flags) f, le-ltb n (pageSize l b) r)
+    writable e f r = low-flags f ∙ any-writable l b n e r
 
   module _ (out : Bytes) where
-    pub refused : (w : Refusal) → firstOf (writeChecks h l b (length out)) ≡ some w → Wrote h l b out (Refused w) out
+    pub flags-refused : 7 < h .flags → Wrote h l b out (Refused UnfitFields) out
     unfolding writeTold writeOut
-    refused w e = record { told = rw e; output = rw e }
+    flags-refused f = record { told = rw (wrong-flags (length out) f); output = rw (wrong-flags (length out) f) }
 
-    pub wrote : firstOf (writeChecks h l b (length out)) ≡ none → Wrote h l b out (Written (pageSize l b)) (copied out 0 (pageBytes h l b))
-    unfolding writeTold writeOut
-    wrote e = record { told = rw e; output = rw e }
+    pub flags-taken : (r : PageWritten) (end : Bytes) → h .flags ≤ 7 → WroteAny h l b out r end → Wrote h l b out r end
+    unfolding writeTold writeOut writeAnyTold writeAnyOut
+    flags-taken r end f w = record { told = w .told ∙ rw (low-flags (length out) f); output = w .output ∙ rw (low-flags (length out) f) }
+
+-- ---- the copies
 
 pub length-start : (h : PageHeader) (n : ℕ) → length (startOf h n) ≡ lacingAt
 unfolding startOf octets

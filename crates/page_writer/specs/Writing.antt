@@ -37,7 +37,11 @@ pageBytes h lacing body = withChecksum (startOf h (length lacing) ++ lacing ++ b
 abbrev pub pageSize : Bytes → Bytes → ℕ
 pageSize lacing body = lacingAt + length lacing + length body
 
--- an output of n bytes
+-- any flags, and an output of n bytes
+abbrev pub anyChecks : Bytes → Bytes → ℕ → List Check
+anyChecks lacing body n = UnfitFields when not (isBody lacing body) ∷ ShortOutput when ltb n (pageSize lacing body) ∷ []
+
+-- flags of at most 7, and an output of n bytes
 abbrev pub writeChecks : PageHeader → Bytes → Bytes → ℕ → List Check
 writeChecks h lacing body n =
     UnfitFields when not (isBody lacing body)
@@ -57,6 +61,13 @@ writeTold h lacing body out = decided (firstOf (writeChecks h lacing body (lengt
 unfoldable pub writeOut : PageHeader → Bytes → Bytes → Bytes → Bytes
 writeOut h lacing body out = written (firstOf (writeChecks h lacing body (length out))) out (pageBytes h lacing body)
 
+-- the same for any flags
+unfoldable pub writeAnyTold : Bytes → Bytes → Bytes → Told ℕ
+writeAnyTold lacing body out = decided (firstOf (anyChecks lacing body (length out))) (pageSize lacing body)
+
+unfoldable pub writeAnyOut : PageHeader → Bytes → Bytes → Bytes → Bytes
+writeAnyOut h lacing body out = written (firstOf (anyChecks lacing body (length out))) out (pageBytes h lacing body)
+
 -- what the code's answer tells
 abbrev pub toldWritten : PageWritten → Told ℕ
 toldWritten (Written n) = gives n
@@ -66,3 +77,8 @@ toldWritten (Refused r) = refuses (numberOf r)
 pub record Wrote (h : PageHeader) (lacing body out : Bytes) (r : PageWritten) (end : Bytes) : Type 0 where
   pub told : toldWritten r ≡ writeTold h lacing body out
   pub output : end ≡ writeOut h lacing body out
+
+-- the same for any flags
+pub record WroteAny (h : PageHeader) (lacing body out : Bytes) (r : PageWritten) (end : Bytes) : Type 0 where
+  pub told : toldWritten r ≡ writeAnyTold lacing body out
+  pub output : end ≡ writeAnyOut h lacing body out

@@ -3,7 +3,7 @@ ghost use mathlib.Core.Path.{_≡_};
 ghost use Prim.Native.Nat.{_≤_};
 ghost use lib.ListN.{length};
 ghost use Rattle.octets.specs.Octets.{copied};
-ghost use Rattle.page_writer.specs.Writing.{withChecksum, startOf, pageBytes, pageSize, Wrote};
+ghost use Rattle.page_writer.specs.Writing.{withChecksum, startOf, pageBytes, pageSize, Wrote, WroteAny};
 use page_layout::CAPTURE;
 use page_layout::CHECKSUM_AT;
 use page_layout::LACING_AT;
@@ -80,17 +80,15 @@ fn put_page(h: PageHeader, lacing: &[u8], body: &[u8], out: &mut [u8])
     renew_checksum(&mut out[..size]);
 }
 
-// The page of these fields, lacing values and body, written to the start of `out`. 23: more than 255 values, values that
-// do not sum to the body's length, or flags above 7. 22: not 23, and `out` is shorter than the page. On refusal nothing is
-// written.
-// Example: `write_page(h, &[3], b"abc", &mut out)` gives `PageWritten::Bytes(31)`, where the flags and `out` allow it.
-pub fn write_page(h: PageHeader, lacing: &[u8], body: &[u8], out: &mut [u8]) -> PageWritten
-    ensures { λ r. ⌜ Wrote h (now (lacing .entry)) (now (body .entry)) (now (out .entry)) r (now (out .exit)) ⌝ }
+// The page of these fields, lacing values and body, written to the start of `out`, for any flags (RULES.md, 3 and 16; RFC 3533,
+// 6). 23: more than 255 values, or values that do not sum to the body's length. 22: not 23, and `out` is shorter than the page.
+// On refusal nothing is written.
+// Example: `write_any_page(h, &[3], b"abc", &mut out)` gives `PageWritten::Bytes(31)` also where the flags are 8, if `out` has
+// 31 bytes.
+pub fn write_any_page(h: PageHeader, lacing: &[u8], body: &[u8], out: &mut [u8]) -> PageWritten
+    ensures { λ r. ⌜ WroteAny h (now (lacing .entry)) (now (body .entry)) (now (out .entry)) r (now (out .exit)) ⌝ }
 {
     if !page_lacing::is_body(lacing, body) {
-        return PageWritten::Refused(Refusal::UnfitFields);
-    }
-    if h.flags > 7 {
         return PageWritten::Refused(Refusal::UnfitFields);
     }
     let size = LACING_AT + lacing.len() + body.len();
@@ -99,4 +97,15 @@ pub fn write_page(h: PageHeader, lacing: &[u8], body: &[u8], out: &mut [u8]) -> 
     }
     put_page(h, lacing, body, out);
     PageWritten::Bytes(size)
+}
+
+// The same for flags of at most 7, the marks that a page can have: any others are refused by 23.
+// Example: `write_page(h, &[3], b"abc", &mut out)` gives `PageWritten::Bytes(31)`, where the flags and `out` allow it.
+pub fn write_page(h: PageHeader, lacing: &[u8], body: &[u8], out: &mut [u8]) -> PageWritten
+    ensures { λ r. ⌜ Wrote h (now (lacing .entry)) (now (body .entry)) (now (out .entry)) r (now (out .exit)) ⌝ }
+{
+    if h.flags > 7 {
+        return PageWritten::Refused(Refusal::UnfitFields);
+    }
+    write_any_page(h, lacing, body, out)
 }

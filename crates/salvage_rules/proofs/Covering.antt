@@ -34,7 +34,7 @@ left-out lo n g gs w = lower (endOf g) lo n gs (omega (arith, w .0)) (w .1)
 
 -- ---- good pages
 
-good-apart : (crc : Bytes → ℕ) (inside at n : ℕ) (s : Bytes) → inside ≤ length s → at + length s ≡ n → Apart (at + inside) n (goodFrom crc inside at s)
+pub good-apart : (crc : Bytes → ℕ) (inside at n : ℕ) (s : Bytes) → inside ≤ length s → at + length s ≡ n → Apart (at + inside) n (goodFrom crc inside at s)
 unfolding Apart goodFrom
 good-apart crc inside at n [] h e = omega arith
 good-apart crc (suc inside) at n (x ∷ s) h e =
@@ -68,7 +68,7 @@ unfolding Apart
 none-apart lo n [] w = w
 none-apart lo n (g ∷ gs) w = let l = none-apart (endOf g) n gs (w .1) in omega (arith, w .0)
 
-stream-apart : (x : Option ℕ) (lo n : ℕ) (gs : List Good) → Apart lo n gs → Apart lo n (ofStream x gs)
+pub stream-apart : (x : Option ℕ) (lo n : ℕ) (gs : List Good) → Apart lo n gs → Apart lo n (ofStream x gs)
 stream-apart none lo n gs w = none-apart lo n gs w
 stream-apart (some k) lo n gs w = serial-apart k lo n gs w
 

@@ -51,7 +51,7 @@ module _ (p : Bytes) (o : Octets p) (one : isOnePage p ≡ true) where
     sequence = field-fits 4 sequenceAt p o (omega (arith, long));
   }
 
-  old-page : Fit (pageOf p .header) × Fits (pageOf p)
+  pub old-page : Fit (pageOf p .header) × Fits (pageOf p)
   unfolding pageOf
   old-page = (header-fit, body-length p one)
 
@@ -106,9 +106,15 @@ module _ (p : Page) (qs : List Good) (h : trailingCut p qs ≡ true) where
 
 -- ---- one page
 
-renewed-fit : (lead : Bool) (n : ℕ) (h : PageHeader) → Fit h → Fit (renewed lead n h)
+pub renewed-fit : (lead : Bool) (n : ℕ) (h : PageHeader) → Fit h → Fit (renewed lead n h)
 renewed-fit true n h f = record { flags = omega (arith, f .flags); granule = f .granule; serial = f .serial; sequence = omega arith }
 renewed-fit false n h f = record { flags = f .flags; granule = f .granule; serial = f .serial; sequence = omega arith }
+
+pub same-header : (lead trail : Bool) (p : Page) → without lead trail p .header ≡ p .header
+same-header true true p = refl
+same-header true false p = refl
+same-header false true p = refl
+same-header false false p = refl
 
 one-less : (p : Page) → continued p ≡ true → p .header .flags - 1 + 1 ≡ p .header .flags
 unfolding continued
@@ -129,8 +135,8 @@ differs lead trail n g o c x = record {
   reads =
       bytes-read (renewed lead n (new .header)) (new .lacing) (new .body) (sym (without-fits lead trail (g .page) (o .fits)))
       (renewed-fit lead n (new .header) (same-fit lead trail));
-  granule = ap (λ (h : PageHeader). h .granule) (same-header lead trail);
-  serial = ap (λ (h : PageHeader). h .serial) (same-header lead trail);
+  granule = ap (λ (h : PageHeader). h .granule) (same-header lead trail (g .page));
+  serial = ap (λ (h : PageHeader). h .serial) (same-header lead trail (g .page));
   number = told-number (tidyPage lead trail n g);
   mark = marked lead trail n g c;
   lead = x .lead;
@@ -143,14 +149,8 @@ differs lead trail n g o c x = record {
     new : Page
     new = without lead trail (g .page)
 
-    same-header : (s t : Bool) → without s t (g .page) .header ≡ g .page .header
-    same-header true true = refl
-    same-header true false = refl
-    same-header false true = refl
-    same-header false false = refl
-
     same-fit : (s t : Bool) → Fit (without s t (g .page) .header)
-    same-fit s t = rw (same-header s t) (o .fit)
+    same-fit s t = rw (same-header s t (g .page)) (o .fit)
 
 -- ---- all of them
 

@@ -22,7 +22,7 @@ module _ (P : Good → Type 0) where
       by true l = (a .0, l)
       by false l = l
 
-  each-stream : (x : Option ℕ) (gs : List Good) → Each P gs → Each P (ofStream x gs)
+  pub each-stream : (x : Option ℕ) (gs : List Good) → Each P gs → Each P (ofStream x gs)
   unfolding Each
   each-stream none gs a = tt
   each-stream (some n) gs a = each-serial n gs a

@@ -58,10 +58,10 @@ module _ (crc : Bytes → ℕ) (s : Bytes) (h : startsPage crc s ≡ true) where
 
 -- ---- all of them
 
-one-later : (b : Bytes) (at x : ℕ) (s : Bytes) → drop at b ≡ x ∷ s → drop (suc at) b ≡ s
+pub one-later : (b : Bytes) (at x : ℕ) (s : Bytes) → drop at b ≡ x ∷ s → drop (suc at) b ≡ s
 one-later b at x s e = ap (λ (k : ℕ). drop k b) (sym (add-one at)) ∙ sym (drop-drop 1 at b) ∙ ap (drop 1) e
 
-good-read : (crc : Bytes → ℕ) (b : Bytes) (inside at : ℕ) (s : Bytes) → drop at b ≡ s → Each (Read crc b) (goodFrom crc inside at s)
+pub good-read : (crc : Bytes → ℕ) (b : Bytes) (inside at : ℕ) (s : Bytes) → drop at b ≡ s → Each (Read crc b) (goodFrom crc inside at s)
 unfolding goodFrom Each
 good-read crc b inside at [] e = tt
 good-read crc b (suc inside) at (x ∷ s) e = good-read crc b inside (suc at) s (one-later b at x s e)

@@ -2,17 +2,20 @@ pub mod Greedy
 pub mod Examples
 pub mod Settling
 pub mod Unbroken
-mod Written
+pub mod Written
 mod Fields
 pub mod Accepted
 pub mod Saved
-mod Every
+pub mod Every
 pub mod Found
 pub mod Bytes
 pub mod Covering
-mod Pieces
+pub mod Pieces
 mod Telling
-mod Removing
+pub mod Removing
 pub mod Differing
+pub mod Parts
 pub mod Room
+pub mod Links
+pub mod Listed
 pub mod Steps

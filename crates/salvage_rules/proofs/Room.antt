@@ -51,7 +51,7 @@ shorter true false p = first-shorter p
 shorter false true p = last-shorter p
 shorter false false p = record { lacing = omega arith; body = omega arith }
 
-page-out : (t : Tidied) → length (pageOut t) ≡ pageSize (t .page .lacing) (t .page .body)
+pub page-out : (t : Tidied) → length (pageOut t) ≡ pageSize (t .page .lacing) (t .page .body)
 page-out t =
     let p : Page = t .page in
     ap length (page-with-checksum (p .header) (p .lacing) (p .body)) ∙ page-length (p .header) _ (p .lacing) (p .body)

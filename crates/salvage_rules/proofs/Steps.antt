@@ -88,11 +88,11 @@ after-accepted R (p ∷ P) b later s k r e v =
     rw (f .passes)
     (after-accepted R P b later (after R s p) (suc k) r (f .later) v ∙ ap (λ (i : ℕ). some (record { number = numberOf r; page = i })) z)
 
-map-out : (A B : List Tidied) → map pageOut (A ++ B) ≡ map pageOut A ++ map pageOut B
+pub map-out : (A B : List Tidied) → map pageOut (A ++ B) ≡ map pageOut A ++ map pageOut B
 map-out [] B = refl
 map-out (a ∷ A) B = ap (λ (l : List Bytes). pageOut a ∷ l) (map-out A B)
 
-as-many : (x : Before) (n : ℕ) (t : Bool) (A : List Good) → length (map pageOut (tidyWith x n t A)) ≡ length A
+pub as-many : (x : Before) (n : ℕ) (t : Bool) (A : List Good) → length (map pageOut (tidyWith x n t A)) ≡ length A
 unfolding tidyWith
 as-many x n t [] = refl
 as-many x n t (g ∷ A) = ap suc (as-many (past x g) (suc n) t A)
@@ -101,21 +101,23 @@ left-out : (A : List Good) (g : Good) (B : List Good) → missing (length A) (A 
 left-out [] g B = refl
 left-out (a ∷ A) g B = ap (λ (l : List Good). a ∷ l) (left-out A g B)
 
+-- the pages of all: those of A, the one after them, and the others
+pub in-two : (A : List Good) (g : Good) (B : List Good)
+    → (later : List Bytes) × (pagesOut (A ++ (g ∷ B)) ≡ firstOut A (g ∷ B) ++ (nextOut A g B ∷ later))
+unfolding pagesOut tidyFrom
+in-two A g B = (
+  map pageOut (tidyFrom (past (pastAll noPage A) g) (suc (0 + length A)) B),
+  ap (map pageOut) (one-bit noPage 0 A (g ∷ B)) ∙ map-out (tidyWith noPage 0 (bitOf A (g ∷ B)) A) _,
+)
+
 module _ (R : Readings) (A : List Good) (g : Good) (B : List Good) (r : Refusal) (e : firstRefused R fresh 0 (firstOut A (g ∷ B)) ≡ none)
     (v : verdict R (stateAfter R fresh (firstOut A (g ∷ B))) (nextOut A g B) ≡ some r) where
-  in-two : (later : List Bytes) × (pagesOut (A ++ (g ∷ B)) ≡ firstOut A (g ∷ B) ++ (nextOut A g B ∷ later))
-  unfolding pagesOut tidyFrom
-  in-two = (
-    map pageOut (tidyFrom (past (pastAll noPage A) g) (suc (0 + length A)) B),
-    ap (map pageOut) (one-bit noPage 0 A (g ∷ B)) ∙ map-out (tidyWith noPage 0 (bitOf A (g ∷ B)) A) _,
-  )
-
   refused-there : refusedIn R (A ++ (g ∷ B)) ≡ some (record { number = numberOf r; page = length A })
   unfolding refusedIn
   refused-there =
       let z : 0 + length (firstOut A (g ∷ B)) ≡ length A = omega (arith, as-many noPage 0 (bitOf A (g ∷ B)) A) in
-      ap (firstRefused R fresh 0) (in-two .1)
-      ∙ after-accepted R (firstOut A (g ∷ B)) (nextOut A g B) (in-two .0) fresh 0 r e v
+      ap (firstRefused R fresh 0) (in-two A g B .1)
+      ∙ after-accepted R (firstOut A (g ∷ B)) (nextOut A g B) (in-two A g B .0) fresh 0 r e v
       ∙ ap (λ (i : ℕ). some (record { number = numberOf r; page = i })) z
 
 pub round-drops : RoundDrops

@@ -2,6 +2,8 @@ pub mod Good
 pub mod Tidy
 pub mod Lines
 pub mod Rounds
+pub mod Links
+pub mod Listed
 pub mod Steps
 pub mod Statements
 pub mod Changes

@@ -1,5 +1,5 @@
--- `feed_page::feed_read` meets its contract: `Joining` has its ways. Assumes nothing.
-use mathlib.Core.Path.{sym, ap, subst, _∙_}
+-- `feed_page::feed_read` meets its contract: `page_due` has 3 to 8, and `feed_due` the others. Assumes nothing.
+use mathlib.Core.Path.{ap, subst}
 use Prim.Native.Nat.{ℕ, _≤_}
 use native.Mathlib.Omega.{arith}
 use borrow.Author.Needs.{needs}
@@ -11,7 +11,6 @@ use Rattle.stream.specs.Readings.{readings}
 use Rattle.stream.specs.Lent.{Lent, lentOf}
 use Rattle.feed_page.specs.declared.Due.{Due}
 use Rattle.feed_page.specs.Stages.{DueIs}
-use Rattle.feed_page.proofs.Joining.{by-audio, by-header}
 use Rattle.feed_page.proofs.feed_read.Statement.{statement}
 use Rattle.feed_page.proofs.feed_read.Tie as tie
 
@@ -36,32 +35,22 @@ few c =
 
 returns : tie.Need-returns
 returns c crc u =
-    let call = c .before .before .before .before .before .before .before .before .before .before .before in
-    let then = call .before .before .before .before .before .before in
-    let body = then .before .before in
+    let call = c .before .before .before .before .before .before .before .before .before .before in
+    let body = call .before .before .before .before .before .before in
     let lacing = body .before in
     let arm = lacing .before .before in
     let due = arm .before .before in
     let a = start due .args in
-    by-audio (subst (checked crc (start due)) (arm .due .given .1) (due .page-due .ensures crc (now (a .page)) (a .tally) (lent (start due)) u)) (u .room)
-    (lacing .lacing-of .ensures) (body .body-of .ensures) (few lacing) (call .feed-audio .result) _ (sym (then .before .is-audio .ensures) ∙ then .if1 .taken)
-    (c .of-audio .ensures) (call .feed-audio .ensures crc)
+    call .feed-due .ensures crc (a .core) (now (a .page)) (record {
+      awaits = subst (checked crc (start due)) (arm .due .given .1) (due .page-due .ensures crc (now (a .page)) (a .tally) (lent (start due)) u);
+      room = u .room;
+      lacing = lacing .lacing-of .ensures;
+      body = body .body-of .ensures;
+      few = few lacing;
+    })
 
 returns-2 : tie.Need-returns-2
 returns-2 c crc u =
-    let call = c .before .before .before in
-    let otherwise = call .before .before in
-    let body = otherwise .before .before in
-    let lacing = body .before in
-    let arm = lacing .before .before in
-    let due = arm .before .before in
-    let a = start due .args in
-    by-header (subst (checked crc (start due)) (arm .due .given .1) (due .page-due .ensures crc (now (a .page)) (a .tally) (lent (start due)) u)) (u .room)
-    (lacing .lacing-of .ensures) (body .body-of .ensures) (few lacing) (call .feed-header .result) _ (sym (otherwise .before .is-audio .ensures) ∙ otherwise .if1 .left)
-    (c .of-header .ensures) (call .feed-header .ensures crc (lent (start due)))
-
-returns-3 : tie.Need-returns-3
-returns-3 c crc u =
     let arm = c .before in
     let due = arm .before .before in
     let a = start due .args in
@@ -71,5 +60,5 @@ pub feed-read-spec : {M : Type 1} → statement M
 feed-read-spec =
     tie.close
     (tie.spec
-    (λ c κs. search needs) (λ c. search needs) (λ c κs. search needs) (λ c κs. search needs) (λ c κs. search needs) (λ c κs. search needs) (λ c κs. search needs)
-    (λ c. search needs) (λ c. search needs) (λ c. search needs) (λ c. search needs) (λ c. search needs) returns (λ c κs. search needs) (λ c κs. search needs) (λ c. search needs) (λ c. search needs) returns-2 returns-3)
+    (λ c κs. search needs) (λ c. search needs) (λ c κs. search needs) (λ c κs. search needs) (λ c κs. search needs) (λ c. search needs)
+    (λ c. search needs) (λ c. search needs) (λ c. search needs) (λ c. search needs) (λ c. search needs) returns returns-2)

@@ -1,0 +1,83 @@
+//! What can be saved of a damaged recording.
+
+use crate::ending::Ending;
+use crate::input::Input;
+use crate::output::Output;
+use crate::replaced::Replaced;
+use crate::trouble::{say, Trouble};
+use embulgri::lines;
+use embulgri::reader::{Reader, Stop};
+use embulgri::salvaging::{Change, Salvage};
+use std::ffi::OsStr;
+
+/// What waits to be written at most.
+const ROOM: usize = 131_072;
+
+/// Samples a second.
+const RATE: u64 = 48_000;
+
+/// Saves what it can of an input to a file, which is made whole or not at all, and prints what was
+/// skipped and changed; or the refusal alone.
+pub fn salvage(input: &mut Input, out: &OsStr) -> Result<Ending, Trouble> {
+    input.read_whole()?;
+    if input.is_file(out) {
+        let name = input.name();
+        return Err(Trouble::new(format!("{name} and {out:?} are one file")));
+    }
+    let n = input.bytes().len();
+    let mut salvage = Salvage::of(n)
+        .ok_or_else(|| Trouble::new(format!("no memory to salvage an input of {n} bytes")))?;
+    let mut output = Output::with_room(ROOM);
+    if let Err(number) = salvage.run(input.bytes()) {
+        return output.end_stream_refused(number);
+    }
+    Replaced::write(out, salvage.stream())?;
+    for i in 0..salvage.changes() {
+        let change = salvage.change(i);
+        output.put(|room, at| lines::put_change(&change, room, at))?;
+    }
+    output.write()?;
+    tell(input, &salvage);
+    Ok(Ending::Done)
+}
+
+/// Says in words what was saved and what is lost, as far as granule positions tell.
+fn tell(input: &Input, salvage: &Salvage) {
+    let (pages, hole) = told_of(salvage.stream());
+    let name = input.name();
+    if salvage.changes() == 0 {
+        say(format_args!("{name}: all {pages} pages are whole; nothing was changed"));
+        return;
+    }
+    let changes = || (0..salvage.changes()).map(|i| salvage.change(i));
+    let skipped: u64 = changes().filter(is_skip).map(|change| change.bytes).sum();
+    let runs = changes().filter(is_skip).count();
+    let cut = changes().filter(is_cut).count();
+    let (seconds, thousandths) = (hole / RATE, hole % RATE * 1_000 / RATE);
+    say(format_args!(
+        "{name}: {pages} pages kept; {skipped} bytes skipped, in {runs} runs; {cut} pieces of packets \
+         removed; by its granule positions {seconds}.{thousandths:03} seconds of sound are missing"
+    ));
+}
+
+fn is_skip(change: &Change) -> bool {
+    change.what == 0
+}
+
+fn is_cut(change: &Change) -> bool {
+    change.what == 3
+}
+
+/// The pages of a whole stream, and the samples of its holes.
+fn told_of(stream: &[u8]) -> (u64, u64) {
+    let mut reader = Reader::start();
+    let (mut at, mut pages) = (0, 0);
+    loop {
+        let fed = reader.feed_pages(&stream[at..]);
+        at += fed.bytes;
+        pages += fed.pages;
+        if !matches!(fed.stop, Stop::Full) {
+            return (pages, reader.hole());
+        }
+    }
+}

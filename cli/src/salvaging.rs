@@ -1,0 +1,82 @@
+//! Salvage of a stream from damaged bytes.
+
+use crate::reserved::Reserved;
+use crate::{accepted, ffi};
+
+/// What salvage skipped or changed: what it tells, by its number, a place of the input, and bytes.
+pub struct Change {
+    pub what: u64,
+    pub place: u64,
+    pub bytes: u64,
+}
+
+/// The memory that salvage is lent: room that always suffices, touched where it is written.
+pub struct Salvage {
+    work: Reserved<u64>,
+    out: Reserved<u8>,
+    what: Reserved<u64>,
+    places: Reserved<u64>,
+    sizes: Reserved<u64>,
+    counts: [u64; 2],
+}
+
+impl Salvage {
+    /// For an input of n bytes; nothing where there is not so much memory.
+    pub fn of(n: usize) -> Option<Salvage> {
+        let lines = n / 7 + 1;
+        Some(Salvage {
+            work: Reserved::of(n / 27)?,
+            out: Reserved::of(n)?,
+            what: Reserved::of(lines)?,
+            places: Reserved::of(lines)?,
+            sizes: Reserved::of(lines)?,
+            counts: [0; 2],
+        })
+    }
+
+    /// Salvages the input; or gives the number of the refusal.
+    pub fn run(&mut self, input: &[u8]) -> Result<(), u32> {
+        let (work, out) = (self.work.all_mut(), self.out.all_mut());
+        let (what, places) = (self.what.all_mut(), self.places.all_mut());
+        let sizes = self.sizes.all_mut();
+        // SAFETY: each pointer goes with the length of its own slice, and `counts` has the two
+        // places that are written; all but the input are borrowed mutably, so they overlap nothing.
+        let number = unsafe {
+            ffi::embulgri_salvage(
+                input.as_ptr(),
+                input.len(),
+                work.as_mut_ptr(),
+                work.len(),
+                out.as_mut_ptr(),
+                out.len(),
+                what.as_mut_ptr(),
+                what.len(),
+                places.as_mut_ptr(),
+                places.len(),
+                sizes.as_mut_ptr(),
+                sizes.len(),
+                self.counts.as_mut_ptr(),
+            )
+        };
+        accepted(number)
+    }
+
+    /// The stream that was salvaged.
+    pub fn stream(&self) -> &[u8] {
+        &self.out.all()[..self.counts[0] as usize]
+    }
+
+    /// How many changes there are.
+    pub fn changes(&self) -> usize {
+        self.counts[1] as usize
+    }
+
+    /// The change with this number, the first being 0.
+    pub fn change(&self, i: usize) -> Change {
+        Change {
+            what: self.what.all()[i],
+            place: self.places.all()[i],
+            bytes: self.sizes.all()[i],
+        }
+    }
+}

@@ -1,0 +1,4 @@
+pub mod Salvaging
+pub mod Columns
+pub mod Code
+pub mod Putting

@@ -1,0 +1,4 @@
+pub mod Pass
+pub mod Code
+pub mod Contracts
+pub mod Found

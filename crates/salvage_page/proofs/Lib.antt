@@ -1,0 +1,5 @@
+mod Values
+mod Decided
+mod Sums
+mod Kept
+pub mod Saving
