@@ -7,7 +7,7 @@ use native.Mathlib.Omega.{arith}
 use lib.ListN.{length, set, length-append}
 use lib.Seq.{sets}
 use Rattle.salvage_rules.specs.Lines.{Line}
-use Rattle.salvage.specs.declared.Changes.{Changes}
+use Rattle.salvage.specs.declared.walk.Changes.{Changes}
 use Rattle.salvage.specs.Columns.{lineIf, oneIf, changesLines, lineCount}
 
 pub sets-append : (l : List ℕ) (i : ℕ) (xs ys : List ℕ) → sets l i (xs ++ ys) ≡ sets (sets l i xs) (i + length xs) ys

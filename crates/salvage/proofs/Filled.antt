@@ -19,8 +19,8 @@ use Rattle.salvage_page.specs.Statements.{keptSize}
 use Rattle.salvage_feed.specs.Feeding.{tidiedBytes}
 use Rattle.salvage_list.specs.declared.Listed.{Listed}
 use Rattle.salvage_list.specs.Next.{ListedIs}
-use Rattle.salvage.specs.declared.Walk.{Walk}
-use Rattle.salvage.specs.declared.Changes.{Changes}
+use Rattle.salvage.specs.declared.walk.Walk.{Walk}
+use Rattle.salvage.specs.declared.walk.Changes.{Changes}
 use Rattle.salvage.specs.Columns.{changesOf, changesLines, lineCount}
 use Rattle.salvage.specs.Code.{endAfter, bytesLeft, linesLeft, linesOf, begun, Kept, allBytes, allLines, Walks, walkBy, CanPut, CanWrite, Walked, PagesWritten}
 use Rattle.salvage.proofs.Columns.{column-append, changes-length}

@@ -15,7 +15,7 @@ use Rattle.salvage_rules.specs.Good.{Good}
 use Rattle.salvage_rules.specs.Tidy.{tidyFrom}
 use Rattle.salvage_rules.specs.Lines.{Line, skipped, linesFrom}
 use Rattle.salvage_rules.specs.Listed.{pagesTo, pagesFrom}
-use Rattle.salvage.specs.declared.Walk.{Walk}
+use Rattle.salvage.specs.declared.walk.Walk.{Walk}
 use Rattle.salvage.specs.Columns.{lineIf, oneIf}
 use Rattle.salvage.specs.Code.{endAfter, bytesLeft, linesLeft, Kept, allBytes, allLines, Walked}
 use Rattle.salvage.specs.Putting.{isShort}

@@ -34,8 +34,8 @@ use Rattle.salvage_list.proofs.Known.{known-is}
 use Rattle.salvage_list.proofs.There.{within, length-there}
 use Rattle.salvage_list.proofs.Collected.{Here, all-here, each-good}
 use Rattle.salvage_kept.proofs.Feeding.{is-next, each-part}
-use Rattle.salvage.specs.declared.Walk.{Walk}
-use Rattle.salvage.specs.declared.Changes.{Changes}
+use Rattle.salvage.specs.declared.walk.Walk.{Walk}
+use Rattle.salvage.specs.declared.walk.Changes.{Changes}
 use Rattle.salvage.specs.Columns.{changesOf, lineCount, changesLines}
 use Rattle.salvage.specs.Code.{endAfter, bytesLeft, linesLeft, linesOf, Kept, allBytes, allLines, Walks, walkBy, NextHas, CanWalk, Walked}
 use Rattle.salvage.proofs.Columns.{changes-length}

@@ -16,7 +16,7 @@ use Rattle.salvage_rules.specs.Tidy.{firstBytes, firstCut, tidyPage}
 use Rattle.salvage_rules.specs.Lines.{Line, line, skipped, changes}
 use Rattle.salvage_rules.specs.Links.{linkOf, tidied}
 use Rattle.salvage_list.specs.declared.Listed.{Listed}
-use Rattle.salvage.specs.declared.Walk.{Walk}
+use Rattle.salvage.specs.declared.walk.Walk.{Walk}
 use Rattle.salvage.specs.Columns.{lineIf, changesLines, changesOf}
 use Rattle.salvage.specs.Code.{linesOf}
 

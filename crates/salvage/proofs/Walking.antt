@@ -19,7 +19,7 @@ use Rattle.salvage_rules.specs.Listed.{goodIn, listedIn, pagesTo, pagesFrom}
 use Rattle.salvage_rules.proofs.Links.{next-prior, past-more, tidied-next, no-cut}
 use Rattle.salvage_rules.proofs.Listed.{with-next}
 use Rattle.salvage_list.specs.declared.Listed.{Listed}
-use Rattle.salvage.specs.declared.Walk.{Walk}
+use Rattle.salvage.specs.declared.walk.Walk.{Walk}
 use Rattle.salvage.specs.Code.{tidyAfter, endAfter, bytesLeft, linesLeft, linesOf, begun, WalkIs, Walks, walkBy, NextHas}
 
 -- ---- the pages after one more

@@ -22,7 +22,7 @@ use Rattle.salvage_rules.specs.Steps.{pastAll}
 use Rattle.salvage_rules.specs.Links.{linkOf, linkCut, noPrior, priorOf, nextPrior, formOf}
 use Rattle.salvage_rules.specs.Listed.{goodIn, listedIn, pagesTo, pagesFrom, NextIs}
 use Rattle.salvage_list.specs.declared.Listed.{Listed}
-use Rattle.salvage.specs.declared.Walk.{Walk}
+use Rattle.salvage.specs.declared.walk.Walk.{Walk}
 
 -- ---- the pages B after the pages K
 

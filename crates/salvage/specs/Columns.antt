@@ -14,8 +14,8 @@ use Rattle.stream.specs.Lent.{Slice}
 use Rattle.salvage_rules.specs.Tidy.{firstBytes}
 use Rattle.salvage_rules.specs.Lines.{Line, line}
 use Rattle.salvage_list.specs.declared.Listed.{Listed}
-use Rattle.salvage.specs.declared.Changes.{Changes}
-use Rattle.salvage.specs.declared.Walk.{Walk}
+use Rattle.salvage.specs.declared.walk.Changes.{Changes}
+use Rattle.salvage.specs.declared.walk.Walk.{Walk}
 use Rattle.salvage.specs.Salvaging.{whatIn, placeIn, sizeIn}
 
 -- a line, where it is told

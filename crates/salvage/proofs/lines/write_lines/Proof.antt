@@ -1,4 +1,4 @@
--- `salvage::write_lines` meets its contract. Assumes nothing.
+-- `salvage::lines::write_lines` meets its contract. Assumes nothing.
 use Prim.Native.Nat.{_-_, _^_, _<_}
 use mathlib.Core.Path.{_≡_, ap, _∙_}
 use native.Mathlib.Omega.{arith}
@@ -10,8 +10,8 @@ use Rattle.salvage.proofs.Walking.{walk-begins}
 use Rattle.salvage.proofs.Steps.{can-walk, lines-here, lines-over, goes, nearer, walk-over}
 use Rattle.salvage.proofs.Filled.{Column, column-begin, column-on, column-end}
 use borrow.Author.Needs.{needs}
-use Rattle.salvage.proofs.write_lines.Statement.{statement}
-use Rattle.salvage.proofs.write_lines.Tie as tie
+use Rattle.salvage.proofs.lines.write_lines.Statement.{statement}
+use Rattle.salvage.proofs.lines.write_lines.Tie as tie
 
 abbrev Inv-loop : tie.InvT-loop
 Inv-loop buffer list what₀ places₀ sizes₀ walk₀ what places sizes walk =

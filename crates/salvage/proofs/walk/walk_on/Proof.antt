@@ -1,11 +1,11 @@
--- `salvage::walk_on` meets its contract. Assumes nothing.
+-- `salvage::walk::walk_on` meets its contract. Assumes nothing.
 use native.Mathlib.Numerals.{add-one}
 use native.Mathlib.Omega.{arith}
 use Rattle.salvage.specs.Columns.{lineCount}
 use Rattle.salvage.proofs.Columns.{line-most}
 use borrow.Author.Needs.{needs}
-use Rattle.salvage.proofs.walk_on.Statement.{statement}
-use Rattle.salvage.proofs.walk_on.Tie as tie
+use Rattle.salvage.proofs.walk.walk_on.Statement.{statement}
+use Rattle.salvage.proofs.walk.walk_on.Tie as tie
 
 size-of-requires : tie.Need-size-of-requires
 size-of-requires c κs = c .before .pre .one

@@ -1,4 +1,4 @@
--- `salvage::walk_all` meets its contract. Assumes nothing.
+-- `salvage::walk::walk_all` meets its contract. Assumes nothing.
 use Prim.Native.Nat.{_-_, _^_, _<_}
 use mathlib.Core.Path.{_≡_, ap, _∙_}
 use native.Mathlib.Omega.{arith}
@@ -8,8 +8,8 @@ use Rattle.salvage.specs.Code.{Walks}
 use Rattle.salvage.proofs.Walking.{walk-begins}
 use Rattle.salvage.proofs.Steps.{can-walk, goes, nearer, walk-over}
 use borrow.Author.Needs.{needs}
-use Rattle.salvage.proofs.walk_all.Statement.{statement}
-use Rattle.salvage.proofs.walk_all.Tie as tie
+use Rattle.salvage.proofs.walk.walk_all.Statement.{statement}
+use Rattle.salvage.proofs.walk.walk_all.Tie as tie
 
 abbrev Inv-loop : tie.InvT-loop
 Inv-loop buffer list walk₀ walk = Walks buffer list walk

@@ -1,8 +1,8 @@
--- `salvage::put_end` meets its contract. Assumes nothing.
+-- `salvage::lines::put_end` meets its contract. Assumes nothing.
 use Rattle.salvage_rules.specs.Lines.{skipped}
 use borrow.Author.Needs.{needs}
-use Rattle.salvage.proofs.put_end.Statement.{statement}
-use Rattle.salvage.proofs.put_end.Tie as tie
+use Rattle.salvage.proofs.lines.put_end.Statement.{statement}
+use Rattle.salvage.proofs.lines.put_end.Tie as tie
 
 returns : tie.Need-returns
 unfolding skipped

@@ -1,9 +1,9 @@
--- `salvage::put_line` meets its contract. Assumes nothing.
+-- `salvage::lines::put_line` meets its contract. Assumes nothing.
 use mathlib.Core.Path.{refl}
 use native.Mathlib.Omega.{arith}
 use borrow.Author.Needs.{needs}
-use Rattle.salvage.proofs.put_line.Statement.{statement}
-use Rattle.salvage.proofs.put_line.Tie as tie
+use Rattle.salvage.proofs.lines.put_line.Statement.{statement}
+use Rattle.salvage.proofs.lines.put_line.Tie as tie
 
 returns : tie.Need-returns
 returns c =

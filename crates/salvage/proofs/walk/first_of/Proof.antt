@@ -1,7 +1,7 @@
--- `salvage::first_of` meets its contract. Assumes nothing.
+-- `salvage::walk::first_of` meets its contract. Assumes nothing.
 use borrow.Author.Needs.{needs}
-use Rattle.salvage.proofs.first_of.Statement.{statement}
-use Rattle.salvage.proofs.first_of.Tie as tie
+use Rattle.salvage.proofs.walk.first_of.Statement.{statement}
+use Rattle.salvage.proofs.walk.first_of.Tie as tie
 
 returns : tie.Need-returns
 returns c = rw (c .before .if1 .taken) (c .first-cut .ensures .bytes)

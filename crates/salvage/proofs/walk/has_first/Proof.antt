@@ -1,4 +1,4 @@
--- `salvage::has_first` meets its contract. Assumes nothing.
+-- `salvage::walk::has_first` meets its contract. Assumes nothing.
 use mathlib.Core.Path.{ap, _∙_}
 use mathlib.Core.List.{List}
 use Prim.Native.Nat.{ℕ}
@@ -6,8 +6,8 @@ use lib.Dec.{ltb}
 use lib.ListN.{length}
 use Rattle.stream.specs.Page.{pageOf}
 use borrow.Author.Needs.{needs}
-use Rattle.salvage.proofs.has_first.Statement.{statement}
-use Rattle.salvage.proofs.has_first.Tie as tie
+use Rattle.salvage.proofs.walk.has_first.Statement.{statement}
+use Rattle.salvage.proofs.walk.has_first.Tie as tie
 
 returns : tie.Need-returns
 unfolding pageOf

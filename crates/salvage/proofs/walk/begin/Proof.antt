@@ -1,7 +1,7 @@
--- `salvage::begin` meets its contract. Assumes nothing.
+-- `salvage::walk::begin` meets its contract. Assumes nothing.
 use borrow.Author.Needs.{needs}
-use Rattle.salvage.proofs.begin.Statement.{statement}
-use Rattle.salvage.proofs.begin.Tie as tie
+use Rattle.salvage.proofs.walk.begin.Statement.{statement}
+use Rattle.salvage.proofs.walk.begin.Tie as tie
 
 returns : tie.Need-returns
 returns c = rw (c .no-prior .ensures)

@@ -1,7 +1,7 @@
--- `salvage::last_of` meets its contract. Assumes nothing.
+-- `salvage::walk::last_of` meets its contract. Assumes nothing.
 use borrow.Author.Needs.{needs}
-use Rattle.salvage.proofs.last_of.Statement.{statement}
-use Rattle.salvage.proofs.last_of.Tie as tie
+use Rattle.salvage.proofs.walk.last_of.Statement.{statement}
+use Rattle.salvage.proofs.walk.last_of.Tie as tie
 
 returns : tie.Need-returns
 returns c = rw (c .before .if1 .taken) (c .last-cut .ensures .bytes)

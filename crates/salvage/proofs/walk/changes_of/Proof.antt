@@ -1,7 +1,7 @@
--- `salvage::changes_of` meets its contract. Assumes nothing.
+-- `salvage::walk::changes_of` meets its contract. Assumes nothing.
 use borrow.Author.Needs.{needs}
-use Rattle.salvage.proofs.changes_of.Statement.{statement}
-use Rattle.salvage.proofs.changes_of.Tie as tie
+use Rattle.salvage.proofs.walk.changes_of.Statement.{statement}
+use Rattle.salvage.proofs.walk.changes_of.Tie as tie
 
 returns : tie.Need-returns
 returns c =

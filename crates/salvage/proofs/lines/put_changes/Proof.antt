@@ -1,4 +1,4 @@
--- `salvage::put_changes` meets its contract: five lines, each where it is told. Assumes nothing.
+-- `salvage::lines::put_changes` meets its contract: five lines, each where it is told. Assumes nothing.
 use mathlib.Core.Path.{_∙_}
 use native.Mathlib.Omega.{arith}
 use borrow.Author.Needs.{needs}
@@ -6,8 +6,8 @@ use denote.Ref.{now}
 use Rattle.salvage.specs.Salvaging.{whatIn, placeIn, sizeIn}
 use Rattle.salvage.specs.Columns.{lineIf}
 use Rattle.salvage.proofs.Columns.{column-five}
-use Rattle.salvage.proofs.put_changes.Statement.{statement}
-use Rattle.salvage.proofs.put_changes.Tie as tie
+use Rattle.salvage.proofs.lines.put_changes.Statement.{statement}
+use Rattle.salvage.proofs.lines.put_changes.Tie as tie
 
 -- the calls, from the last one back
 abbrev fourth : tie.After-put-line5 → tie.After-put-line4

@@ -1,4 +1,4 @@
--- `salvage::size_of` meets its contract. Assumes nothing.
+-- `salvage::walk::size_of` meets its contract. Assumes nothing.
 use Prim.Native.Nat.{ℕ, _+_, _≤_}
 use mathlib.Core.Path.{ap, ap₂}
 use mathlib.Core.List.{List}
@@ -8,8 +8,8 @@ use lib.ListN.{length}
 use Rattle.salvage_page.specs.Statements.{keptSize}
 use Rattle.salvage_page.proofs.Saving.{no-longer}
 use borrow.Author.Needs.{needs}
-use Rattle.salvage.proofs.size_of.Statement.{statement}
-use Rattle.salvage.proofs.size_of.Tie as tie
+use Rattle.salvage.proofs.walk.size_of.Statement.{statement}
+use Rattle.salvage.proofs.walk.size_of.Tie as tie
 
 -- the page fits
 fits : (c : tie.Start) → keptSize (c .args .form) (now (c .args .page)) ≤ length (now (c .args .page))
