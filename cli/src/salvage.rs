@@ -6,6 +6,7 @@ use crate::output::Output;
 use crate::replaced::Replaced;
 use crate::trouble::{say, Trouble};
 use embulgri::lines;
+use embulgri::pages;
 use embulgri::reader::{Reader, Stop};
 use embulgri::salvaging::{Change, Salvage};
 use std::ffi::OsStr;
@@ -43,20 +44,22 @@ pub fn salvage(input: &mut Input, out: &OsStr) -> Result<Ending, Trouble> {
 
 /// Says in words what was saved and what is lost, as far as granule positions tell.
 fn tell(input: &Input, salvage: &Salvage) {
-    let (pages, hole) = told_of(salvage.stream());
+    let (kept, hole) = told_of(salvage.stream());
     let name = input.name();
     if salvage.changes() == 0 {
-        say(format_args!("{name}: all {pages} pages are whole; nothing was changed"));
+        say(format_args!("{name}: all {kept} pages are whole; nothing was changed"));
         return;
     }
     let changes = || (0..salvage.changes()).map(|i| salvage.change(i));
     let skipped: u64 = changes().filter(is_skip).map(|change| change.bytes).sum();
     let runs = changes().filter(is_skip).count();
     let cut = changes().filter(is_cut).count();
+    let lost = lost_of(input.bytes(), changes().filter(is_skip));
     let (seconds, thousandths) = (hole / RATE, hole % RATE * 1_000 / RATE);
     say(format_args!(
-        "{name}: {pages} pages kept; {skipped} bytes skipped, in {runs} runs; {cut} pieces of packets \
-         removed; by its granule positions {seconds}.{thousandths:03} seconds of sound are missing"
+        "{name}: {kept} pages kept, by their numbers {lost} lost; {skipped} bytes skipped, in {runs} runs; \
+         {cut} pieces of packets removed; by its granule positions {seconds}.{thousandths:03} seconds of \
+         sound are missing"
     ));
 }
 
@@ -66,6 +69,35 @@ fn is_skip(change: &Change) -> bool {
 
 fn is_cut(change: &Change) -> bool {
     change.what == 3
+}
+
+/// How many pages are missing between the kept ones, by the numbers that these have in the input: all
+/// bytes but the skipped ones are in kept pages. A number that was there before tells of none.
+fn lost_of(input: &[u8], skips: impl Iterator<Item = Change>) -> u64 {
+    let end = (input.len(), 0);
+    let skips = skips.map(|skip| (skip.place as usize, skip.bytes as usize));
+    let (mut at, mut lost, mut last) = (0, 0, None);
+    for (place, bytes) in skips.chain([end]) {
+        while let Some(size) = pages::page_end(&input[at..place]) {
+            let Ok((_, number)) = pages::position_of(&input[at..at + size]) else {
+                break;
+            };
+            lost += last.map_or(0, |last| missing_between(last, number));
+            (last, at) = (Some(number), at + size);
+        }
+        at = place + bytes;
+    }
+    lost
+}
+
+/// How many numbers lie between two, the later one modulo 2^32 less than 2^31 after the other.
+fn missing_between(last: u32, number: u32) -> u64 {
+    let step = number.wrapping_sub(last).wrapping_sub(1);
+    if step < 1 << 31 {
+        u64::from(step)
+    } else {
+        0
+    }
 }
 
 /// The pages of a whole stream, and the samples of its holes.

@@ -12,7 +12,7 @@ from pages import FIRST, cut, read_page, write_page
 from programs import ROOT
 from repage import paged, pieces
 from runs import DONE, REFUSED, TROUBLE, counts, fault, must, refusal_due
-from salvage import salvage
+from salvage import good_pages, of_stream, salvage, settle
 from salvage_examples import examples
 from stopped import own_memory_of
 
@@ -31,7 +31,14 @@ def counted(saved):
     return reader.pages, reader.hole
 
 
-def summary(saved, printed):
+def lost_of(data):
+    """How many pages are missing between the kept ones, by the numbers that these had."""
+    numbers = [good.page.sequence for good in settle(of_stream(good_pages(data)))[0]]
+    steps = [(number - last - 1) % 2**32 for last, number in zip(numbers, numbers[1:])]
+    return sum(step for step in steps if step < 2**31)
+
+
+def summary(data, saved, printed):
     """What is said of a salvage that prints this."""
     pages, hole = counted(saved)
     if not printed:
@@ -39,7 +46,8 @@ def summary(saved, printed):
     lines = [line.split() for line in printed.decode().splitlines()]
     skips = [int(size) for what, _, size in lines if what == 'skip']
     cuts = sum(what == 'cut' for what, _, _ in lines)
-    return (f': {pages} pages kept; {sum(skips)} bytes skipped, in {len(skips)} runs; {cuts} pieces of packets removed; '
+    return (f': {pages} pages kept, by their numbers {lost_of(data)} lost; {sum(skips)} bytes skipped, in {len(skips)} runs; '
+            f'{cuts} pieces of packets removed; '
             f'by its granule positions {hole // 48000}.{hole % 48000 // 48:03} seconds of sound are missing\n').encode()
 
 
@@ -59,7 +67,7 @@ def must_save(name, words, data, folder, **options):
     if saved is None:
         must(f'salvage, {name}', ['salvage', *words], printed, REFUSED, refusal_due('refused 24', data), **options)
     else:
-        must(f'salvage, {name}', ['salvage', *words], printed, DONE, summary(saved, printed), **options)
+        must(f'salvage, {name}', ['salvage', *words], printed, DONE, summary(data, saved, printed), **options)
     found = files_of(folder)
     if found != (before if saved is None else {'out': saved}):
         fault(f'salvage, {name}', f'leaves {[(file, len(text)) for file, text in found.items()]}')
@@ -160,7 +168,7 @@ def run_inputs(folder, out):
         path.rename(os.fsdecode(names[1]))
         must_save(f'from {name}', ['--', name, target], data, out, cwd=folder)
         os.rename(names[1], path)
-        must(f'salvage to {name}', ['salvage', '--', path, name], salvage(data)[1], DONE, b' pages kept; ', cwd=out)
+        must(f'salvage to {name}', ['salvage', '--', path, name], salvage(data)[1], DONE, b' pages kept, ', cwd=out)
         (out / 'out').unlink()
         os.rename(names[0], out / 'out')
         if files_of(out) != {'out': salvage(data)[0]}:
@@ -173,7 +181,7 @@ def run_link(folder, out):
     saved, printed = salvage(data)
     (out / 'out').write_bytes(OLD)
     (out / 'link').symlink_to('out')
-    must('salvage to a link', ['salvage', path, out / 'link'], printed, DONE, summary(saved, printed))
+    must('salvage to a link', ['salvage', path, out / 'link'], printed, DONE, summary(data, saved, printed))
     if not (out / 'link').is_symlink() or files_of(out) != {'out': saved, 'link': saved}:
         fault('salvage to a link', f'leaves {[*files_of(out)]}')
     (out / 'link').unlink()
