@@ -1,9 +1,9 @@
 /* The speed of embulgri_salvage, on a recording and on a damaged copy of it, against embulgri_feed_pages over the recording.
  *
  * usage: salvage GOOD.opus DAMAGED.opus RUNS
- * The three take turns, and the least processor time of RUNS runs counts. The memory that salvage is lent is new each time
- * and not touched before, so that its time has all that touching it takes. The status is 1 if salvage takes more than 2
- * times the time of feeding on the recording, or more than 4 times on the damaged copy.
+ * All take turns, and the least processor time of RUNS runs counts. Salvage runs twice in the memory that it is lent: in new
+ * memory, where its time has all that the system takes to provide it, and once more. The status is 1 if either takes more
+ * than 2 times the time of feeding on the recording, or more than 4 times on the damaged copy.
  */
 #include "recording.h"
 
@@ -11,10 +11,14 @@
 
 static const double MOST_UNDAMAGED = 2, MOST_DAMAGED = 4;
 
-struct salvaged {
-    double seconds;
+struct lent {
+    size_t size, pages, lines;
+    uint64_t *work, *what, *places, *sizes;
     uint8_t *out;
-    uint64_t counts[2];
+};
+
+struct times {
+    double fresh, again;
 };
 
 static void *reserved(size_t count, size_t each)
@@ -25,48 +29,52 @@ static void *reserved(size_t count, size_t each)
     return start;
 }
 
-/* Salvage in new memory, of which the output is left to the caller. */
-static struct salvaged salvage(struct recording r)
+/* New memory, with room for all that is saved of an input of this size. */
+static struct lent lend(size_t size)
 {
-    size_t pages = r.size / 27, lines = r.size / 7 + 1;
-    uint64_t *work = reserved(pages, 8), *what = reserved(lines, 8), *places = reserved(lines, 8), *sizes = reserved(lines, 8);
-    struct salvaged s = { 0, reserved(r.size, 1), { 0, 0 } };
+    size_t pages = size / 27, lines = size / 7 + 1;
+    return (struct lent){ size, pages, lines, reserved(pages, 8), reserved(lines, 8), reserved(lines, 8), reserved(lines, 8),
+                          reserved(size, 1) };
+}
+
+static void take_back(struct lent l)
+{
+    munmap(l.work, l.pages * 8);
+    munmap(l.what, l.lines * 8);
+    munmap(l.places, l.lines * 8);
+    munmap(l.sizes, l.lines * 8);
+    munmap(l.out, l.size);
+}
+
+static double time_of_salvage(struct recording r, struct lent l, uint64_t counts[2])
+{
     double start = now();
-    if (embulgri_salvage(r.bytes, r.size, work, pages, s.out, r.size, what, lines, places, lines, sizes, lines, s.counts) != 0)
+    if (embulgri_salvage(r.bytes, r.size, l.work, l.pages, l.out, l.size, l.what, l.lines, l.places, l.lines, l.sizes, l.lines,
+                         counts) != 0)
         give_up("salvage is refused");
-    s.seconds = now() - start;
-    munmap(work, pages * 8);
-    munmap(what, lines * 8);
-    munmap(places, lines * 8);
-    munmap(sizes, lines * 8);
-    return s;
+    return now() - start;
 }
 
-static double time_undamaged(struct recording r)
+/* The lesser times, of those so far and of two runs more. What is saved must be the recording or, of the damaged one, whole. */
+static struct times salvage(struct recording r, struct times so_far, int is_damaged, uint64_t counts[2])
 {
-    struct salvaged s = salvage(r);
-    if (s.counts[0] != r.size || s.counts[1] != 0 || memcmp(s.out, r.bytes, r.size) != 0)
-        give_up("the recording is changed");
-    munmap(s.out, r.size);
-    return s.seconds;
-}
-
-static double time_damaged(struct recording r, uint64_t counts[2])
-{
-    struct salvaged s = salvage(r);
+    struct lent l = lend(r.size);
+    double fresh = time_of_salvage(r, l, counts), again = time_of_salvage(r, l, counts);
     uint64_t page;
-    if (s.counts[1] == 0 || embulgri_judge(s.out, s.counts[0], &page) != 0)
+    if (!is_damaged && (counts[0] != r.size || counts[1] != 0 || memcmp(l.out, r.bytes, r.size) != 0))
+        give_up("the recording is changed");
+    if (is_damaged && (counts[1] == 0 || embulgri_judge(l.out, counts[0], &page) != 0))
         give_up("what is saved is not whole");
-    memcpy(counts, s.counts, sizeof s.counts);
-    munmap(s.out, r.size);
-    return s.seconds;
+    take_back(l);
+    return (struct times){ lesser(so_far.fresh, fresh), lesser(so_far.again, again) };
 }
 
-/* Prints a time; whether it keeps its bound. */
-static int keeps(const char *name, double least, double fed, double most)
+/* Prints the times; whether they keep their bound. */
+static int keeps(const char *name, struct times t, double fed, double most)
 {
-    printf("  embulgri_salvage, %s %8.3f s, %.2f of that; the bound is %.0f\n", name, least, least / fed, most);
-    return least <= most * fed;
+    printf("  embulgri_salvage, %s %8.3f s, %.2f of that; in new memory %.3f s, %.2f; the bound is %.0f\n", name, t.again,
+           t.again / fed, t.fresh, t.fresh / fed, most);
+    return t.again <= most * fed && t.fresh <= most * fed;
 }
 
 int main(int argc, char **argv)
@@ -74,18 +82,19 @@ int main(int argc, char **argv)
     if (argc != 4 || atoi(argv[3]) < 1)
         give_up("usage: salvage GOOD.opus DAMAGED.opus RUNS");
     struct recording good = map(argv[1]), damaged = map(argv[2]);
-    double fed = 1e9, undamaged = 1e9, least = 1e9;
+    double fed = 1e9;
+    struct times whole = { 1e9, 1e9 }, saved = { 1e9, 1e9 };
     uint64_t counts[2];
     for (int i = 0; i < atoi(argv[3]); i++) {
         fed = lesser(fed, time_of_feeding(good));
-        undamaged = lesser(undamaged, time_undamaged(good));
-        least = lesser(least, time_damaged(damaged, counts));
+        whole = salvage(good, whole, 0, counts);
+        saved = salvage(damaged, saved, 1, counts);
     }
     printf("  %.1f MB; of %.1f MB damaged, %.1f MB are saved, with %d lines\n", good.size / 1e6, damaged.size / 1e6,
            counts[0] / 1e6, (int)counts[1]);
     printf("  embulgri_feed_pages         %8.3f s\n", fed);
-    int kept = keeps("undamaged", undamaged, fed, MOST_UNDAMAGED), saved = keeps("damaged  ", least, fed, MOST_DAMAGED);
-    if (!kept || !saved)
+    int kept = keeps("undamaged", whole, fed, MOST_UNDAMAGED) & keeps("damaged  ", saved, fed, MOST_DAMAGED);
+    if (!kept)
         printf("  a bound is EXCEEDED\n");
-    return !kept || !saved;
+    return !kept;
 }
