@@ -151,7 +151,8 @@ usage: embulgri explain N
 
 Says what the number N of \"refused N page K\" means. There are numbers from 1 to
 24, and 26 and 30. Those from 2 to 18 end a listing, and these, 24 and 26 are
-given by index and seek, 24 by salvage too; the others are told to programs that call the library.
+given by index and seek, 24 by salvage too; the others are told to programs that
+call the library.
 
 exit status: 0 said, 3 there is no such number
 ";

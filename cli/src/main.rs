@@ -56,9 +56,9 @@ fn run(task: Task) -> Result<c_int, Trouble> {
             position,
             listing,
         } => seek(Input::open(recording)?, position, listing),
-        Task::Salvage { input, out } => follow(Input::open(input)?, |input| {
-            salvage::salvage(input, &out)
-        }),
+        Task::Salvage { input, out } => {
+            follow(Input::open(input)?, |input| salvage::salvage(input, &out))
+        }
         Task::Print(text) => output::print(&text).map(|()| 0),
         Task::Usage => {
             show(help::ALL);

@@ -47,7 +47,9 @@ fn tell(input: &Input, salvage: &Salvage) {
     let (kept, hole) = told_of(salvage.stream());
     let name = input.name();
     if salvage.changes() == 0 {
-        say(format_args!("{name}: all {kept} pages are whole; nothing was changed"));
+        say(format_args!(
+            "{name}: all {kept} pages are whole; nothing was changed"
+        ));
         return;
     }
     let changes = || (0..salvage.changes()).map(|i| salvage.change(i));
