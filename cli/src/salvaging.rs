@@ -26,7 +26,7 @@ impl Salvage {
         let lines = n / 7 + 1;
         Some(Salvage {
             work: Reserved::of(n / 27)?,
-            out: Reserved::of(n)?,
+            out: Reserved::for_writing(n)?,
             what: Reserved::of(lines)?,
             places: Reserved::of(lines)?,
             sizes: Reserved::of(lines)?,

@@ -19,7 +19,7 @@ from stopped import own_memory_of
 SEED = 20261117
 TIMES = 40                              # how often each stream is damaged at random
 MANY, LONG = 10000, 1 << 26            # pages and bytes of a long input
-MOST_MEMORY = 2048                      # KiB that its salvage takes
+MOST_MEMORY = 4096                      # KiB that its salvage takes, half of it one large page of the output
 OLD = b'what was there before\n'
 seen = set()                            # what was saved, and has been looked at
 
