@@ -319,6 +319,29 @@ uint32_t embulgri_salvage(const uint8_t *bytes, size_t n, uint64_t *work, size_t
                           uint64_t *what, size_t what_n, uint64_t *places, size_t places_n,
                           uint64_t *sizes, size_t sizes_n, uint64_t counts[2]);
 
+/* Crops a whole stream at a page, the first being page 0: both headers as they are, and all pages from that one on, go to
+ * the start of out. These are renumbered by one shift, so that they follow the headers, and their checksums are made again;
+ * granule positions stay. *written is how many bytes the crop has; the bytes of out past them stay as they were. An out_n
+ * of n always suffices.
+ *   2 to 18, 24  the stream is not whole, by this number of embulgri_judge
+ *   29  neither, and there is no such page, or it is one of the headers, or it is marked continued, completes no packet, or
+ *       is marked last
+ *   22  none of these, and out_n is below the number of bytes
+ *   0   none of these
+ * Example: of two header pages, of 47 and 44 bytes, and three audio pages of 31, each of one packet, none marked last, page
+ * 3 stores 153 to *written: the pages are numbered 0 to 3. */
+uint32_t embulgri_crop(const uint8_t *stream, size_t n, uint64_t page, uint8_t *out, size_t out_n, uint64_t *written);
+
+/* Finds where a crop begins: the last page, of those up to page last, at which embulgri_crop may begin and whose first
+ * packet starts at or before a position, in samples at 48 kHz. start: the page, and where that packet starts: its end stamp
+ * less its length.
+ *   2 to 18, 24  the stream is not whole, by this number of embulgri_judge
+ *   29  neither, and there is no such page
+ *   0   neither; start is stored
+ * Example: where those audio pages have packets of 960 samples and the granule positions 960, 1,920 and 2,880, a last of 9
+ * and the position 1,000 store 3 and 960. */
+uint32_t embulgri_crop_start(const uint8_t *stream, size_t n, uint64_t last, uint64_t position, uint64_t start[2]);
+
 /* ---- the lines that the program embulgri prints; these calls are for it, and may change with it */
 
 /* Puts the line above all packets of a listing into out from place at on. It returns the place after it, or at itself

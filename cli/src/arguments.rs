@@ -25,39 +25,56 @@ pub enum Task {
     },
     /// Save what can be saved of a damaged one to a file.
     Salvage { input: Name, out: OsString },
+    /// Keep it from a page on, in a file.
+    Crop {
+        input: Name,
+        begin: Begin,
+        out: OsString,
+    },
     /// Print this text.
     Print(String),
     /// Say how the program is used, since nothing was asked for.
     Usage,
 }
 
-/// What may follow the first word: so many words, and --index with one more.
+/// Where a crop is to begin: with a page, or at a position or before it.
+pub enum Begin {
+    Page(u64),
+    Position(u64),
+}
+
+/// What may follow the first word: so many words, and an option with one more.
 struct Most {
     words: usize,
-    index: bool,
+    option: Option<&'static str>,
 }
 
 const ONE_WORD: Most = Most {
     words: 1,
-    index: false,
+    option: None,
 };
 
 const TWO_WORDS: Most = Most {
     words: 2,
-    index: false,
+    option: None,
 };
 
 const SEEK_WORDS: Most = Most {
     words: 2,
-    index: true,
+    option: Some("--index"),
 };
 
-/// What follows the first word: a wish for help; or words, and the one after --index.
+const CROP_WORDS: Most = Most {
+    words: 3,
+    option: Some("--at"),
+};
+
+/// What follows the first word: a wish for help; or words, and the one after the option.
 enum Rest {
     Help,
     Words {
         plain: Vec<OsString>,
-        index: Option<OsString>,
+        option: Option<OsString>,
     },
 }
 
@@ -72,6 +89,7 @@ pub fn task_of(words: &[OsString]) -> Result<Task, Trouble> {
         b"index" => file_task(rest, Task::Index, help::INDEX),
         b"seek" => seek_task(rest),
         b"salvage" => salvage_task(rest),
+        b"crop" => crop_task(rest),
         b"explain" => explain_task(rest),
         b"--help" | b"-h" => Ok(Task::Print(help::ALL.into())),
         b"--version" => Ok(Task::Print(help::version())),
@@ -90,21 +108,20 @@ fn file_task(words: &[OsString], task: fn(Name) -> Task, help: &str) -> Result<T
 
 /// To seek the position that the last word is.
 fn seek_task(words: &[OsString]) -> Result<Task, Trouble> {
-    let Rest::Words { mut plain, index } = rest_of(words, SEEK_WORDS)? else {
+    let Rest::Words { mut plain, option } = rest_of(words, SEEK_WORDS)? else {
         return Ok(Task::Print(help::SEEK.into()));
     };
     let Some(word) = plain.pop() else {
-        return Err(misused_seek("no position to seek"));
+        return Err(misused_by("seek", "no position to seek"));
     };
-    let Some(position) = decimal(word.as_bytes()) else {
-        let most = u64::MAX;
-        let message = format!("{word:?} is no position, a decimal number from 0 to {most}");
-        return Err(misused_seek(&message));
-    };
+    let position = number_of(&word, "seek", "position")?;
     let recording = plain.pop().and_then(named);
-    let listing = index.map(named);
+    let listing = option.map(named);
     if recording.is_none() && listing == Some(None) {
-        return Err(misused_seek("the index and the recording are one input"));
+        return Err(misused_by(
+            "seek",
+            "the index and the recording are one input",
+        ));
     }
     Ok(Task::Seek {
         recording,
@@ -119,17 +136,48 @@ fn salvage_task(words: &[OsString]) -> Result<Task, Trouble> {
         return Ok(Task::Print(help::SALVAGE.into()));
     };
     match (plain.pop(), plain.pop()) {
-        (Some(out), Some(_)) if out == "-" => Err(Trouble::new(
-            "what is saved is written to a file; see embulgri salvage --help",
-        )),
+        (Some(out), Some(_)) if out == "-" => {
+            Err(misused_by("salvage", "what is saved is written to a file"))
+        }
         (Some(out), Some(input)) => Ok(Task::Salvage {
             input: named(input),
             out,
         }),
-        _ => Err(Trouble::new(
-            "salvage takes two files, IN and OUT; see embulgri salvage --help",
-        )),
+        _ => Err(misused_by("salvage", "salvage takes two files, IN and OUT")),
     }
+}
+
+/// To crop the first word's file to the last one's, at the page between them or at the option's
+/// position.
+fn crop_task(words: &[OsString]) -> Result<Task, Trouble> {
+    let Rest::Words { plain, option } = rest_of(words, CROP_WORDS)? else {
+        return Ok(Task::Print(help::CROP.into()));
+    };
+    let (input, begin, out) = match (plain.as_slice(), option) {
+        ([input, out], Some(word)) => {
+            let position = number_of(&word, "crop", "position")?;
+            (input, Begin::Position(position), out)
+        }
+        ([input, word, out], None) => {
+            let page = number_of(word, "crop", "page")?;
+            (input, Begin::Page(page), out)
+        }
+        ([_, _, _], Some(_)) => {
+            return Err(misused_by("crop", "a page and a position are asked for"));
+        }
+        _ => {
+            let due = "crop takes IN, a PAGE or --at with a POSITION, and OUT";
+            return Err(misused_by("crop", due));
+        }
+    };
+    if out == "-" {
+        return Err(misused_by("crop", "what is kept is written to a file"));
+    }
+    Ok(Task::Crop {
+        input: named(input.clone()),
+        begin,
+        out: out.clone(),
+    })
 }
 
 /// To print what a number means.
@@ -138,31 +186,30 @@ fn explain_task(words: &[OsString]) -> Result<Task, Trouble> {
         return Ok(Task::Print(help::EXPLAIN.into()));
     };
     let Some(word) = plain.pop() else {
-        return Err(Trouble::new(
-            "no number to explain; see embulgri explain --help",
-        ));
+        return Err(misused_by("explain", "no number to explain"));
     };
     match meanings::explained(&word) {
         Some(text) => Ok(Task::Print(text)),
-        None => Err(Trouble::new(format!(
-            "{word:?} is no number of a refusal; see embulgri explain --help"
-        ))),
+        None => {
+            let message = format!("{word:?} is no number of a refusal");
+            Err(misused_by("explain", &message))
+        }
     }
 }
 
 /// What follows the first word. After "--" nothing is taken for an option.
 fn rest_of(words: &[OsString], most: Most) -> Result<Rest, Trouble> {
-    let (mut plain, mut index) = (Vec::new(), None);
+    let (mut plain, mut option) = (Vec::new(), None);
     let mut options = true;
     let mut words = words.iter();
     while let Some(word) = words.next() {
         match word.as_bytes() {
             b"--" if options => options = false,
             b"--help" | b"-h" if options => return Ok(Rest::Help),
-            b"--index" if options && most.index => match words.next() {
-                Some(_) if index.is_some() => return Err(misused("one option too many", word)),
-                Some(name) => index = Some(name.clone()),
-                None => return Err(misused("no file after", word)),
+            _ if options && most.option.is_some_and(|name| word == name) => match words.next() {
+                Some(_) if option.is_some() => return Err(misused("one option too many", word)),
+                Some(next) => option = Some(next.clone()),
+                None => return Err(misused("nothing after", word)),
             },
             text if options && text.len() > 1 && text[0] == b'-' => {
                 return Err(misused("unknown option", word));
@@ -171,7 +218,7 @@ fn rest_of(words: &[OsString], most: Most) -> Result<Rest, Trouble> {
             _ => plain.push(word.clone()),
         }
     }
-    Ok(Rest::Words { plain, index })
+    Ok(Rest::Words { plain, option })
 }
 
 /// What a word names where a file is due: "-" is standard input.
@@ -184,7 +231,16 @@ fn misused(what: &str, word: &OsStr) -> Trouble {
     Trouble::new(format!("{what}: {word:?}; see embulgri --help"))
 }
 
-/// Of words for `seek` that do not go together.
-fn misused_seek(what: &str) -> Trouble {
-    Trouble::new(format!("{what}; see embulgri seek --help"))
+/// Of what is wrong in the words that follow this first one.
+fn misused_by(first: &str, what: &str) -> Trouble {
+    Trouble::new(format!("{what}; see embulgri {first} --help"))
+}
+
+/// The number that a word is, after this first one, where such a thing is due.
+fn number_of(word: &OsStr, first: &str, thing: &str) -> Result<u64, Trouble> {
+    decimal(word.as_bytes()).ok_or_else(|| {
+        let most = u64::MAX;
+        let message = format!("{word:?} is no {thing}, a decimal number from 0 to {most}");
+        misused_by(first, &message)
+    })
 }

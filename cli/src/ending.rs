@@ -13,12 +13,14 @@ pub enum Ending {
     Refused { number: u32, page: u64, at: u64 },
     /// No page was refused, but the stream was by this number; the line that says so is printed.
     StreamRefused { number: u32 },
+    /// No page was refused, but the crop was by this number; the line that says so is printed.
+    CropRefused { number: u32 },
     /// The index was refused by this number, for the record at this place of it; the line that says
     /// so is printed.
     IndexRefused { number: u32, place: u64 },
 }
 
-/// What stops feeding, or building an index, before the end: a refusal, by its number, or trouble.
+/// What stops feeding, building an index, or cropping, before the end: a refusal, by its number, or trouble.
 pub enum Stopped {
     Refused(u32),
     Trouble(Trouble),

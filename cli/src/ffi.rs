@@ -84,6 +84,21 @@ extern "C" {
         out_n: usize,
         at: u64,
     ) -> u64;
+    pub fn embulgri_crop(
+        stream: *const u8,
+        n: usize,
+        page: u64,
+        out: *mut u8,
+        out_n: usize,
+        written: *mut u64,
+    ) -> u32;
+    pub fn embulgri_crop_start(
+        stream: *const u8,
+        n: usize,
+        last: u64,
+        position: u64,
+        start: *mut u64,
+    ) -> u32;
     pub fn embulgri_list_first(out: *mut u8, out_n: usize, at: u64) -> u64;
     pub fn embulgri_list_total(state: *const u64, out: *mut u8, out_n: usize, at: u64) -> u64;
     pub fn embulgri_list_refused(

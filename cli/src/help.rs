@@ -15,18 +15,24 @@ usage: embulgri list [FILE]   one line a packet: its end stamp, its length, its
        embulgri salvage IN OUT
                               what can be saved of a damaged recording, to OUT;
                               one line for each thing skipped or changed
+       embulgri crop IN PAGE OUT
+       embulgri crop IN --at POSITION OUT
+                              the recording from a page on, or from the last one
+                              that starts at or before POSITION, to OUT
        embulgri explain N     what the number of a refusal means
        embulgri --help        this text; embulgri list --help says more of list,
                               and so on
        embulgri --version     the version
 
-Without FILE, or where it is \"-\", standard input is read. After \"--\" no word
-is taken for an option.
+Without FILE, or where it or IN is \"-\", standard input is read. A file that is
+read, IN too, must not change meanwhile; it may grow. After \"--\" no word is
+taken for an option.
 
 exit status:
   0  done
-  2  a page was refused: the last line is \"refused N page K\"; or an index was:
-     \"refused N place P\". Standard error says what that means
+  2  refused: the last line is \"refused N page K\" for a page, and \"refused N
+     place P\" for an index; where it is neither, as where a header is lost or no
+     crop begins there, \"refused N\". Standard error says what that means
   3  trouble: wrong arguments, or reading or writing failed; standard error
      says which
 ";
@@ -139,10 +145,43 @@ with no lines. Standard error says in words what was saved.
 
 Where there is no page that is marked first, or a header is lost, \"refused 24\"
 is the only line. OUT is written beside its place and renamed when it is
-complete; without that it is left as it was. Where IN is \"-\", standard input is
-read. IN is mapped, or read into memory whole, and OUT is made in memory.
+complete; without that it is left as it was. A file that it replaces passes on
+its permissions. Where IN is \"-\", standard input is read. IN is mapped, or read
+into memory whole, and OUT is made in memory. IN must not change meanwhile.
 
 exit status: 0 saved, with changes or without, 2 refused, 3 trouble
+";
+
+/// What `crop` does and prints.
+pub const CROP: &str = "\
+usage: embulgri crop IN PAGE OUT
+       embulgri crop IN --at POSITION OUT
+
+Writes the Ogg Opus recording IN to OUT from a page on: both headers as they
+are, and the page and all after it, numbered so that they follow the headers.
+Sound and granule positions are not changed: the stamps of embulgri list stay.
+
+Pages are counted from 0. A crop begins with a page of audio on which a packet
+completes and which is marked neither continued nor last. With --at it is the
+last such page whose first packet starts at or before POSITION, a decimal number
+of samples at 48,000 a second, which counts as granule positions do. Standard
+error says which page that is and where its first packet starts.
+
+A decoder needs 80 ms from there on, 3,840 samples, to settle, and the pre-skip
+is skipped again: to hear all from a position on, give --at one that is earlier
+by the greater of both.
+
+Where a page breaks a rule, \"refused N page K\" is the only line, and where the
+recording ends before its comment header is complete, \"refused 24\". Where no
+crop begins at PAGE, or none at or before POSITION, it is \"refused 29\". Else
+nothing is printed.
+
+OUT is written beside its place and renamed when it is complete; without that it
+is left as it was. A file that it replaces passes on its permissions. Where IN
+is \"-\", standard input is read. IN is mapped, or read into memory whole, and OUT
+is made in memory. IN must not change meanwhile.
+
+exit status: 0 cropped, 2 refused, 3 trouble
 ";
 
 /// What `explain` prints.
@@ -150,9 +189,9 @@ pub const EXPLAIN: &str = "\
 usage: embulgri explain N
 
 Says what the number N of \"refused N page K\" means. There are numbers from 1 to
-24, and 26 and 30. Those from 2 to 18 end a listing, and these, 24 and 26 are
-given by index and seek, 24 by salvage too; the others are told to programs that
-call the library.
+24, and 26, 29 and 30. Those from 2 to 18 end a listing; these, 24 and 26 are
+given by index and seek, 24 by salvage, and those from 2 to 18, 24 and 29 by
+crop. The others are told to programs that call the library.
 
 exit status: 0 said, 3 there is no such number
 ";

@@ -77,8 +77,17 @@ impl Input {
         &self.name
     }
 
+    /// Trouble where it is the file with this name, which is to be written.
+    pub fn must_not_be(&self, out: &OsStr) -> Result<(), Trouble> {
+        if self.is_file(out) {
+            let name = &self.name;
+            return Err(Trouble::new(format!("{name} and {out:?} are one file")));
+        }
+        Ok(())
+    }
+
     /// Whether it is the file with this name.
-    pub fn is_file(&self, name: &OsStr) -> bool {
+    fn is_file(&self, name: &OsStr) -> bool {
         let Ok(other) = std::fs::metadata(name) else {
             return false;
         };

@@ -3,6 +3,7 @@
 //! lent memory from overlapping, as the library asks. Numbers of refusals are those of
 //! docs/RULES.md, 2.
 
+pub mod cropping;
 mod ffi;
 pub mod lines;
 pub mod pages;
@@ -22,6 +23,9 @@ pub const HEADER_LINES_MAX: usize = 1_048_576;
 
 /// The number of a stream that ends before its comment header is complete. No page is so refused.
 pub const HEADERS_INCOMPLETE: u32 = 24;
+
+/// The number of a crop that cannot begin where it is asked to. No page of the stream is refused.
+pub const NO_CROP_START: u32 = 29;
 
 /// Whether a call was accepted, by the number that it returns: 0, or that of the refusal.
 fn accepted(number: u32) -> Result<(), u32> {

@@ -7,6 +7,7 @@
 #![no_main]
 
 mod arguments;
+mod crop;
 mod ending;
 mod help;
 mod index;
@@ -59,6 +60,9 @@ fn run(task: Task) -> Result<c_int, Trouble> {
         Task::Salvage { input, out } => {
             follow(Input::open(input)?, |input| salvage::salvage(input, &out))
         }
+        Task::Crop { input, begin, out } => {
+            follow(Input::open(input)?, |input| crop::crop(input, &begin, &out))
+        }
         Task::Print(text) => output::print(&text).map(|()| 0),
         Task::Usage => {
             show(help::ALL);
@@ -85,6 +89,7 @@ fn follow(
     let (number, what) = match task(&mut input)? {
         Ending::Done => return Ok(0),
         Ending::StreamRefused { number } => (number, "the stream is".into()),
+        Ending::CropRefused { number } => (number, "the crop is".into()),
         Ending::Refused { number, page, at } => (
             number,
             format!("page {page}, which starts at byte {at}, is"),

@@ -5,7 +5,7 @@ use std::ffi::OsStr;
 /// A refusal's number, its name, and when it is given.
 struct Meaning(u32, &'static str, &'static str);
 
-const MEANINGS: [Meaning; 26] = [
+const MEANINGS: [Meaning; 27] = [
     Meaning(
         1,
         "ShortRoom",
@@ -143,6 +143,13 @@ const MEANINGS: [Meaning; 26] = [
         26,
         "FallingGranule",
         "a granule position of the index is below the one before it",
+    ),
+    Meaning(
+        29,
+        "NoCropStart",
+        "no crop begins there: the stream has no such page, or it is one of the headers, is \
+         marked continued or last, or completes no packet; or no page at which a crop may \
+         begin starts at or before the position",
     ),
     Meaning(
         30,

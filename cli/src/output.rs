@@ -78,6 +78,12 @@ impl Output {
         Ok(Ending::StreamRefused { number })
     }
 
+    /// Puts the line of a refusal of a crop, and writes what waits.
+    pub fn end_crop_refused(&mut self, number: u32) -> Result<Ending, Trouble> {
+        self.end_stream_refused(number)?;
+        Ok(Ending::CropRefused { number })
+    }
+
     /// Puts the line of a refusal of an index, for the record at a place, and writes what waits.
     pub fn end_index_refused(&mut self, number: u32, place: u64) -> Result<Ending, Trouble> {
         self.put(|out, at| lines::put_index_refused(number, place, out, at))?;

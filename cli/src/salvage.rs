@@ -9,6 +9,7 @@ use embulgri::lines;
 use embulgri::pages;
 use embulgri::reader::{Reader, Stop};
 use embulgri::salvaging::{Change, Salvage};
+use embulgri::HEADERS_INCOMPLETE;
 use std::ffi::OsStr;
 
 /// What waits to be written at most.
@@ -21,48 +22,56 @@ const RATE: u64 = 48_000;
 /// skipped and changed; or the refusal alone.
 pub fn salvage(input: &mut Input, out: &OsStr) -> Result<Ending, Trouble> {
     input.read_whole()?;
-    if input.is_file(out) {
-        let name = input.name();
-        return Err(Trouble::new(format!("{name} and {out:?} are one file")));
-    }
+    input.must_not_be(out)?;
     let n = input.bytes().len();
     let mut salvage = Salvage::of(n)
         .ok_or_else(|| Trouble::new(format!("no memory to salvage an input of {n} bytes")))?;
     let mut output = Output::with_room(ROOM);
-    if let Err(number) = salvage.run(input.bytes()) {
-        return output.end_stream_refused(number);
+    match salvage.run(input.bytes()) {
+        Ok(()) => {}
+        Err(HEADERS_INCOMPLETE) => return output.end_stream_refused(HEADERS_INCOMPLETE),
+        Err(number) => return Err(Trouble::unforeseen(number)),
     }
+    let told = told_of(salvage.stream())?;
     Replaced::write(out, salvage.stream())?;
     for i in 0..salvage.changes() {
         let change = salvage.change(i);
         output.put(|room, at| lines::put_change(&change, room, at))?;
     }
     output.write()?;
-    tell(input, &salvage);
+    tell(input, &salvage, told);
     Ok(Ending::Done)
 }
 
-/// Says in words what was saved and what is lost, as far as granule positions tell.
-fn tell(input: &Input, salvage: &Salvage) {
-    let (kept, hole) = told_of(salvage.stream());
+/// Says in words what was saved, of which the pages and the samples of holes are given, and what is
+/// lost, as far as granule positions tell.
+fn tell(input: &Input, salvage: &Salvage, (pages, hole): (u64, u64)) {
     let name = input.name();
     if salvage.changes() == 0 {
         say(format_args!(
-            "{name}: all {kept} pages are whole; nothing was changed"
+            "{name}: all {pages} pages are whole; nothing was changed"
         ));
         return;
     }
     let changes = || (0..salvage.changes()).map(|i| salvage.change(i));
     let skipped: u64 = changes().filter(is_skip).map(|change| change.bytes).sum();
-    let runs = changes().filter(is_skip).count();
-    let cut = changes().filter(is_cut).count();
+    let skipped = counted(skipped, "byte", "bytes");
+    let runs = counted(changes().filter(is_skip).count() as u64, "run", "runs");
+    let cut = changes().filter(is_cut).count() as u64;
+    let cut = counted(cut, "piece of a packet", "pieces of packets");
+    let kept = counted(pages, "page", "pages");
     let lost = lost_of(input.bytes(), changes().filter(is_skip));
     let (seconds, thousandths) = (hole / RATE, hole % RATE * 1_000 / RATE);
     say(format_args!(
-        "{name}: {kept} pages kept, by their numbers {lost} lost; {skipped} bytes skipped, in {runs} runs; \
-         {cut} pieces of packets removed; by its granule positions {seconds}.{thousandths:03} seconds of \
-         sound are missing"
+        "{name}: {kept} kept, by their numbers {lost} lost; {skipped} skipped, in {runs}; {cut} \
+         removed; by its granule positions {seconds}.{thousandths:03} seconds of sound are missing"
     ));
+}
+
+/// A number of things, by their name in the singular or in the plural.
+fn counted(n: u64, one: &str, many: &str) -> String {
+    let name = if n == 1 { one } else { many };
+    format!("{n} {name}")
 }
 
 fn is_skip(change: &Change) -> bool {
@@ -102,16 +111,20 @@ fn missing_between(last: u32, number: u32) -> u64 {
     }
 }
 
-/// The pages of a whole stream, and the samples of its holes.
-fn told_of(stream: &[u8]) -> (u64, u64) {
+/// The pages of what was saved, which the library promises to be a whole stream, and the samples of
+/// its holes.
+fn told_of(stream: &[u8]) -> Result<(u64, u64), Trouble> {
     let mut reader = Reader::start();
     let (mut at, mut pages) = (0, 0);
     loop {
         let fed = reader.feed_pages(&stream[at..]);
         at += fed.bytes;
         pages += fed.pages;
-        if !matches!(fed.stop, Stop::Full) {
-            return (pages, reader.hole());
+        match fed.stop {
+            Stop::Full => {}
+            Stop::Cut if at == stream.len() => return Ok((pages, reader.hole())),
+            Stop::Cut => return Err(Trouble::unforeseen("it saved what is no whole page")),
+            Stop::Refused(number) => return Err(Trouble::unforeseen(number)),
         }
     }
 }

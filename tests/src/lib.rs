@@ -1,7 +1,7 @@
 //! What the tests of the Embulgri library share. The library is called over its C interface and
 //! held to an independent implementation, [`ogg`], [`opus`], [`head`], [`tags`], [`feeding`],
-//! [`buffer_pages`], [`judging`], [`index`], [`salvage`], [`lines`], [`header_text`] and [`clock`], on
-//! inputs from a deterministic generator.
+//! [`buffer_pages`], [`judging`], [`index`], [`salvage`], [`crop`], [`lines`], [`header_text`] and
+//! [`clock`], on inputs from a deterministic generator.
 
 pub mod accepted;
 pub mod buffer_inputs;
@@ -12,6 +12,12 @@ pub mod changed_numbers;
 pub mod clock;
 pub mod clock_inputs;
 pub mod counted;
+pub mod crop;
+pub mod crop_calls;
+pub mod crop_further;
+pub mod crop_inputs;
+pub mod crop_questions;
+pub mod crop_readers;
 pub mod damages;
 pub mod demands;
 pub mod feed_audio;
@@ -21,6 +27,7 @@ pub mod feed_faults;
 pub mod feed_headers;
 pub mod feeding;
 pub mod ffi;
+pub mod ffi_crop;
 pub mod ffi_index;
 pub mod ffi_lines;
 pub mod ffi_salvage;

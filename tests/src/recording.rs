@@ -82,7 +82,7 @@ fn cuts(random: &mut Random) -> [usize; 3] {
 }
 
 /// Lays packets on pages of about so many lacing values, for audio with pages of none between. The granule fields are those of header pages.
-fn lay(random: &mut Random, sounds: &[Sound], cuts: &[usize], audio: bool) -> Vec<Written> {
+pub fn lay(random: &mut Random, sounds: &[Sound], cuts: &[usize], audio: bool) -> Vec<Written> {
     let mut values = Vec::new();
     let mut body = Vec::new();
     for sound in sounds {
@@ -130,7 +130,7 @@ fn page_of(before: &[Written], values: &[(u8, Option<u64>)], body: &[u8]) -> Wri
 }
 
 /// Sometimes cuts the last packet, so that the recording ends inside it.
-fn leave_unfinished(random: &mut Random, pages: &mut [Written]) {
+pub fn leave_unfinished(random: &mut Random, pages: &mut [Written]) {
     let Some(Written { page, lengths }) = pages.last_mut() else {
         return;
     };
@@ -148,7 +148,7 @@ fn leave_unfinished(random: &mut Random, pages: &mut [Written]) {
 }
 
 /// Gives granule positions to the pages where a packet completes, and mostly a mark to the last.
-fn date(random: &mut Random, pages: &mut [Written], pre_skip: u64) {
+pub fn date(random: &mut Random, pages: &mut [Written], pre_skip: u64) {
     let mut position = 0;
     for written in pages.iter_mut().filter(|written| written.completes()) {
         position += written.samples();
@@ -207,7 +207,7 @@ fn mark_last(random: &mut Random, pages: &mut [Written], pre_skip: u64) {
 }
 
 /// Gives the pages one serial, their sequence numbers and the first mark.
-fn number(random: &mut Random, pages: &mut [Written]) {
+pub fn number(random: &mut Random, pages: &mut [Written]) {
     let serial = random.field() as u32;
     for (written, sequence) in pages.iter_mut().zip(0..) {
         written.page.serial = serial;

@@ -38,6 +38,10 @@ def lost_of(data):
     return sum(step for step in steps if step < 2**31)
 
 
+def counted_of(count, one, many):
+    return f'{count} {one if count == 1 else many}'
+
+
 def summary(data, saved, printed):
     """What is said of a salvage that prints this."""
     pages, hole = counted(saved)
@@ -46,8 +50,9 @@ def summary(data, saved, printed):
     lines = [line.split() for line in printed.decode().splitlines()]
     skips = [int(size) for what, _, size in lines if what == 'skip']
     cuts = sum(what == 'cut' for what, _, _ in lines)
-    return (f': {pages} pages kept, by their numbers {lost_of(data)} lost; {sum(skips)} bytes skipped, in {len(skips)} runs; '
-            f'{cuts} pieces of packets removed; '
+    return (f': {pages} pages kept, by their numbers {lost_of(data)} lost; {counted_of(sum(skips), "byte", "bytes")} skipped, '
+            f'in {counted_of(len(skips), "run", "runs")}; '
+            f'{counted_of(cuts, "piece of a packet", "pieces of packets")} removed; '
             f'by its granule positions {hole // 48000}.{hole % 48000 // 48:03} seconds of sound are missing\n').encode()
 
 

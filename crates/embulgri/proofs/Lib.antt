@@ -3,3 +3,4 @@ pub mod Readers
 pub mod Judging
 pub mod Indexes
 pub mod Savings
+pub mod Croppings

@@ -4,3 +4,4 @@ pub mod Lines
 pub mod Streams
 pub mod Index
 pub mod Saving
+pub mod Cropping

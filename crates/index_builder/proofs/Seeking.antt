@@ -28,8 +28,8 @@ use Rattle.index_search.specs.Index.{Index, noRecord, granulesOf, atRecord, see
 use Rattle.index_search.specs.Statements.{Means}
 use Rattle.index_search.proofs.Means.{answer-means}
 use Rattle.index_walk.specs.Records.{PlacedPage, placedFrom, recordOf, recordsOf, indexOf}
-use Rattle.index_walk.specs.Walk.{pageAt}
-use Rattle.index_walk.proofs.Places.{front}
+use Rattle.recording_pages.specs.Places.{pageAt}
+use Rattle.recording_pages.proofs.Pages.{front}
 use Rattle.index_builder.specs.Statements.{SeekJoins}
 
 -- the place is that of the jth of these pages

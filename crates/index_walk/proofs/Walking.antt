@@ -11,13 +11,14 @@ use Rattle.stream.specs.Page.{pageOf, completes}
 use Rattle.stream.specs.Stream.{afterComment, audioPages}
 use Rattle.recording.specs.Pages.{pagesOf}
 use Rattle.recording.proofs.Places.{no-pages}
+use Rattle.recording_pages.specs.Places.{pageAt}
+use Rattle.recording_pages.proofs.Pages.{front}
 use Rattle.index_search.specs.Index.{Index}
 use Rattle.index_walk.specs.declared.Due.{Due}
 use Rattle.index_walk.specs.declared.Due.the-variants.{Head, Comment, Audio}
 use Rattle.index_walk.specs.declared.Walk.{Walk}
 use Rattle.index_walk.specs.Records.{placedFrom, recordOf, recordsOf, indexOf}
-use Rattle.index_walk.specs.Walk.{pageAt, dueAfter, isRecorded, nowhere, nextOf, begunAt, indexFrom}
-use Rattle.index_walk.proofs.Places.{front}
+use Rattle.index_walk.specs.Walk.{dueAfter, isRecorded, nowhere, nextOf, begunAt, indexFrom}
 
 -- the records that are left at a place of the buffer b
 abbrev pub leftAt : Bytes → Walk → Index

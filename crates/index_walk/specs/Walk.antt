@@ -2,27 +2,18 @@
 use Prim.Native.Nat.{ℕ, _+_, _-_, _%_, _^_}
 use mathlib.Core.Bool.{Bool, true, false}
 use mathlib.Core.List.{List}
-use mathlib.Core.Option.{Option, none, some}
-use lib.ListN.{length, take, drop}
+use lib.ListN.{length}
 use Rattle.octets.specs.Pick.{pick}
 use Rattle.octets.specs.Octets.{Bytes}
-use Rattle.page_end.specs.End.{endAt}
 use Rattle.stream.specs.Page.{pageOf, completes}
 use Rattle.stream.specs.Stream.{afterComment, audioPages}
+use Rattle.recording_pages.specs.Places.{pageAt}
 use Rattle.index_search.specs.declared.IndexRecord.{IndexRecord}
 use Rattle.index_search.specs.Index.{Index, noRecord}
 use Rattle.index_walk.specs.declared.Due.{Due}
 use Rattle.index_walk.specs.declared.Due.the-variants.{Head, Comment, Audio}
 use Rattle.index_walk.specs.declared.Walk.{Walk}
 use Rattle.index_walk.specs.Records.{PlacedPage, recordOf, recordsOf, placedFrom}
-
--- the page at a place of a buffer, up to its end, or up to the buffer's where it is cut
-abbrev pub pageTo : Bytes → ℕ → Option ℕ → Bytes
-pageTo b at (some e) = take (e - at) (drop at b)
-pageTo b at none = drop at b
-
-unfoldable pub pageAt : Bytes → ℕ → Bytes
-pageAt b at = pageTo b at (endAt b at)
 
 -- what is due after a page; `done`: a packet completes on it
 abbrev pub dueAfter : Due → Bool → Due

@@ -3,11 +3,9 @@
 ghost use mathlib.Core.Path.{_≡_};
 ghost use lib.ListN.{length};
 ghost use Rattle.recording.specs.Pages.{pagesOf};
-ghost use Rattle.stream.specs.Page.{ends};
 ghost use Rattle.index_walk.specs.Records.{indexOf};
-ghost use Rattle.index_walk.specs.Walk.{pageAt, dueAfter, isRecorded, begunAt, steppedTo, nextOf};
+ghost use Rattle.index_walk.specs.Walk.{dueAfter, isRecorded, begunAt, steppedTo, nextOf};
 use index_search::IndexRecord;
-use page_end::End;
 
 // A place past the end of every list of records.
 pub const NOWHERE: usize = 18446744073709551615;
@@ -29,30 +27,6 @@ pub struct Walk {
     pub count: usize,
     pub slot: usize,
     pub made: IndexRecord,
-}
-
-// Whether a packet completes: a lacing value is below 255.
-fn completes(lacing: &[u8]) -> bool
-    ensures { λ r. ⌜ r ≡ ends (now (lacing .entry)) ⌝ }
-{
-    let mut i = 0;
-    while i < lacing.len() {
-        if lacing[i] < 255 {
-            return true;
-        }
-        i += 1;
-    }
-    false
-}
-
-// The bytes of the page at a place, up to the end of the buffer where it is cut.
-fn page_at(stream: &[u8], at: usize) -> &[u8]
-    ensures { λ r. ⌜ now r ≡ pageAt (now (stream .entry)) at ⌝ }
-{
-    match page_end::end_at(stream, at) {
-        End::At(end) => octets::part_of(stream, at, end - at),
-        End::Cut => octets::part_of(stream, at, stream.len()),
-    }
 }
 
 fn due_after(due: Due, done: bool) -> Due
@@ -122,9 +96,9 @@ fn step(w: Walk, end: usize, done: bool, made: IndexRecord) -> Walk
 pub fn next(stream: &[u8], w: Walk) -> Walk
     ensures { λ r. ⌜ r ≡ nextOf (now (stream .entry)) w ⌝ }
 {
-    let page = page_at(stream, w.at);
+    let page = recording_pages::page_at(stream, w.at);
     let header = page_layout::header_of(page);
-    let done = completes(page_layout::lacing_of(page));
+    let done = recording_pages::has_end(page_layout::lacing_of(page));
     let end = w.at + page.len();
     let made = IndexRecord {
         granule: header.granule,

@@ -2,3 +2,5 @@ pub mod Writing
 pub mod Written
 pub mod RoundTrip
 pub mod Octets
+pub mod Fitting
+pub mod Part

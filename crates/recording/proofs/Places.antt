@@ -19,7 +19,7 @@ pub place-begins : PlaceBegins
 place-begins b = record { inside = omega arith; pages = refl }
 
 -- without the first one
-next-drop : (S : List Bytes) (k : ℕ) (p : Bytes) (later : List Bytes) → drop k S ≡ p ∷ later → drop (suc k) S ≡ later
+pub next-drop : (S : List Bytes) (k : ℕ) (p : Bytes) (later : List Bytes) → drop k S ≡ p ∷ later → drop (suc k) S ≡ later
 next-drop S k p later e = let one : k + 1 ≡ suc k = omega arith in ap (λ (i : ℕ). drop i S) (sym one) ∙ sym (drop-drop 1 k S) ∙ ap (drop 1) e
 
 pub place-goes-on : PlaceGoesOn

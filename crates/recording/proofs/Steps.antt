@@ -114,13 +114,6 @@ module _ (R : Readings) (b : Bytes) (a : Accepted) (old new : Bytes) {r : Step} 
   pub step-ends : {j : Judged} → r ≡ Ends j → toldJudged j ≡ judgeAfter R b a old
   step-ends {j} e = sym (ap (λ (x : Next). judgeNext R b x new) (ap nextAs e)) ∙ is .same
 
--- memory of the same lengths has room too
-pub room-stays : (m n : Lent) → isShort m ≡ false → length (n .carry) ≡ length (m .carry) → length (n .ends) ≡ length (m .ends)
-    → length (n .lengths) ≡ length (m .lengths) → length (n .kept) ≡ length (m .kept) → length (n .frames) ≡ length (m .frames)
-    → isShort n ≡ false
-unfolding isShort
-room-stays m n e a x y z w = rw (a, x, y, z, w) e
-
 pub from-start : (R : Readings) (b carry : Bytes) (r : Reading) → knownAs r ≡ start
     → judgeAfter R b (record { reader = r; bytes = 0; pages = 0; packets = 0 }) carry ≡ judgeBuffer R b
 from-start R b carry r e = ap (λ (k : Reader). judgeFrom R (view (k .core) carry) 0 0 (pagesOf b)) e ∙ from-fresh R (pagesOf b)

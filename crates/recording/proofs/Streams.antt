@@ -129,6 +129,13 @@ pub not-short : (m : Lent) → Room m → isShort m ≡ false
 unfolding isShort
 not-short m r = or-none _ _ (r .carry) (or-none _ _ (r .ends) (or-none _ _ (r .lengths) (or-none _ _ (r .kept) (r .frames))))
 
+-- memory of the same lengths has room too
+pub room-stays : (m n : Lent) → isShort m ≡ false → length (n .carry) ≡ length (m .carry) → length (n .ends) ≡ length (m .ends)
+    → length (n .lengths) ≡ length (m .lengths) → length (n .kept) ≡ length (m .kept) → length (n .frames) ≡ length (m .frames)
+    → isShort n ≡ false
+unfolding isShort
+room-stays m n e a x y z w = rw (a, x, y, z, w) e
+
 fed-room : (R : Readings) (r : Reader) (m : Lent) (b : Bytes) → isShort m ≡ false → isShort (feed R r m b .lent) ≡ false
 fed-room R r m b e = rw (feeds R r m b e) (by (verdict R (view (r .core) (m .carry)) b))
   where

@@ -5,7 +5,7 @@ use Rattle.refusal.specs.declared.Refusal.the-variants.{OutOfSequence, W
 use Rattle.refusal.specs.declared.Refusal.the-variants.{HeaderShape, WrongGranule, BadHead, BadMapping, BadTags}
 use Rattle.refusal.specs.declared.Refusal.the-variants.{IllegalPacket, MixedLengths, GranuleTooSmall, BelowPreSkip}
 use Rattle.refusal.specs.declared.Refusal.the-variants.{NoPosition, NoSuchPart, BadGain, ShortOutput, UnfitFields}
-use Rattle.refusal.specs.declared.Refusal.the-variants.{HeadersIncomplete, FallingGranule, ClockRange}
+use Rattle.refusal.specs.declared.Refusal.the-variants.{HeadersIncomplete, FallingGranule, NoCropStart, ClockRange}
 use Rattle.refusal.specs.Statements.{NumbersPositive}
 
 pub numbers-positive : NumbersPositive
@@ -34,4 +34,5 @@ numbers-positive ShortOutput = refl
 numbers-positive UnfitFields = refl
 numbers-positive HeadersIncomplete = refl
 numbers-positive FallingGranule = refl
+numbers-positive NoCropStart = refl
 numbers-positive ClockRange = refl

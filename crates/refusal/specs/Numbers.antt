@@ -7,7 +7,7 @@ use Rattle.refusal.specs.declared.Refusal.the-variants.{PacketTooLong, H
 use Rattle.refusal.specs.declared.Refusal.the-variants.{BadMapping, BadTags, IllegalPacket, MixedLengths}
 use Rattle.refusal.specs.declared.Refusal.the-variants.{GranuleTooSmall, BelowPreSkip, NoPosition, NoSuchPart}
 use Rattle.refusal.specs.declared.Refusal.the-variants.{BadGain, ShortOutput, UnfitFields}
-use Rattle.refusal.specs.declared.Refusal.the-variants.{HeadersIncomplete, FallingGranule, ClockRange}
+use Rattle.refusal.specs.declared.Refusal.the-variants.{HeadersIncomplete, FallingGranule, NoCropStart, ClockRange}
 
 abbrev pub numberOf : Refusal → ℕ
 numberOf ShortRoom = 1
@@ -35,4 +35,5 @@ numberOf ShortOutput = 22
 numberOf UnfitFields = 23
 numberOf HeadersIncomplete = 24
 numberOf FallingGranule = 26
+numberOf NoCropStart = 29
 numberOf ClockRange = 30

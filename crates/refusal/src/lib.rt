@@ -53,6 +53,8 @@ pub enum Refusal {
     HeadersIncomplete,
     // 26: a granule position of an index is below the one before it
     FallingGranule,
+    // 29: a crop may not begin at the page
+    NoCropStart,
     // 30: no packet has the length, or the exact count would pass 2^63 - 1
     ClockRange,
 }
@@ -87,6 +89,7 @@ pub fn number(r: Refusal) -> u8
         Refusal::UnfitFields => 23,
         Refusal::HeadersIncomplete => 24,
         Refusal::FallingGranule => 26,
+        Refusal::NoCropStart => 29,
         Refusal::ClockRange => 30,
     }
 }

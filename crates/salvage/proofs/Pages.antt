@@ -1,33 +1,29 @@
 -- A page put into its place of the output. Assumes nothing.
 use Prim.Native.Nat.{ℕ, _+_, _-_, _%_, _^_, _≤_, _<_}
-use mathlib.Core.Path.{_≡_, refl, sym, ap, ap₂, _∙_}
+use mathlib.Core.Path.{_≡_, refl, sym, ap, _∙_}
 use mathlib.Core.Bool.{Bool, true, false, false≢true}
-use mathlib.Core.List.{List, [], _++_, append-assoc, append-nil}
 use native.Mathlib.Omega.{arith}
 use borrow.Author.Tests.{eqb-true}
-use borrow.Rule.Slice.PartMut.{midOf, postOf, putMid}
+use borrow.Rule.Slice.PartMut.{midOf, putMid}
 use lib.Dec.{eqb}
-use lib.ListN.{length, take, drop, length-drop, drop-of-length-le}
-use lib.Seq.{take-all, take-length, drop-drop}
+use lib.ListN.{length, length-drop}
 use Rattle.octets.specs.Pick.{pick}
 use Rattle.octets.specs.Octets.{Bytes, Octets, copied}
-use Rattle.octets.proofs.Copying.{copied-fits}
 use Rattle.page_crc.specs.Crc.{pageCrc}
 use Rattle.page_layout.specs.Page.{checksumOf}
-use Rattle.page_layout.specs.declared.PageHeader.{PageHeader}
 use Rattle.page_size.specs.Size.{isOnePage}
 use Rattle.page_reader.specs.Reading.{readPage}
 use Rattle.page_reader.proofs.Reading.{wrong-checksum}
 use Rattle.page_writer.specs.declared.PageWritten.{PageWritten}
 use Rattle.page_writer.specs.Writing.{pageBytes}
 use Rattle.page_writer.proofs.RoundTrip.{page-again}
+use Rattle.page_writer.proofs.Part.{part-from, in-part}
 use Rattle.stream.specs.Page.{pageOf}
 use Rattle.salvage_search.specs.Search.{isGood}
 use Rattle.salvage_rules.specs.declared.Form.{Form}
 use Rattle.salvage_rules.specs.declared.Link.{Link}
-use Rattle.salvage_rules.specs.Tidy.{tidyPage, renewed}
+use Rattle.salvage_rules.specs.Tidy.{tidyPage}
 use Rattle.salvage_rules.specs.Links.{linkOf, tidied}
-use Rattle.salvage_rules.specs.Rounds.{pageOut}
 use Rattle.salvage_rules.proofs.Found.{read-one}
 use Rattle.salvage_rules.proofs.Room.{page-out}
 use Rattle.salvage_page.specs.Tidied.{WroteTidied}
@@ -77,15 +73,6 @@ as-it-is p next n o good link small same = by (next .form .lead) refl same
 
 -- ---- a page written to a part of the output
 
-pub copied-in-part : (d : Bytes) (at : ℕ) (s : Bytes) → at + length s ≤ length d → take at d ++ copied (drop at d) 0 s ≡ copied d at s
-copied-in-part d at s h =
-    let room : 0 + length s ≤ length (drop at d) = omega (arith, length-drop at d) in
-    let z : at + (0 + length s) ≡ at + length s = omega arith in
-    ap (λ (x : Bytes). take at d ++ x) (copied-fits (drop at d) 0 s room)
-    ∙ ap (λ (x : Bytes). take at d ++ (take (length s) s ++ x)) (drop-drop (0 + length s) at d ∙ ap (λ (k : ℕ). drop k d) z)
-    ∙ sym (append-assoc (take at d) (take (length s) s) (drop (at + length s) d))
-    ∙ sym (copied-fits d at s h)
-
 pub put-tidied : (p : Bytes) (f : Form) (n : ℕ) (d : Bytes) (at : ℕ) (r : PageWritten) (ys : Bytes) → Octets p → isOnePage p ≡ true
     → at + keptSize f p ≤ length d → WroteTidied f n p (midOf at (length d - at) d) r ys
     → putMid at (length d - at) d ys ≡ copied d at (tidiedBytes f n p)
@@ -93,9 +80,5 @@ unfolding tidyPage
 put-tidied p f n d at r ys o one room w =
     let s : Bytes = tidiedBytes f n p in
     let size : length s ≡ keptSize f p = page-out (tidied f n (record { place = 0; page = pageOf p })) in
-    let mid : midOf at (length d - at) d ≡ drop at d = take-all (length d - at) (drop at d) (omega (arith, length-drop at d)) in
-    let post : postOf at (length d - at) d ≡ [] = drop-of-length-le (drop at d) {i = length d - at} (omega (arith, length-drop at d)) in
-    let saved = page-saved f n p (midOf at (length d - at) d) r ys o one (rw mid (omega (arith, length-drop at d))) w in
-    ap (λ (x : Bytes). take at d ++ (ys ++ x)) post ∙ ap (λ (x : Bytes). take at d ++ x) (append-nil ys)
-    ∙ ap (λ (x : Bytes). take at d ++ x) (saved .output ∙ ap (λ (x : Bytes). copied x 0 s) mid)
-    ∙ copied-in-part d at s (omega (arith, size))
+    let saved = page-saved f n p (midOf at (length d - at) d) r ys o one (rw (part-from d at) (omega (arith, length-drop at d))) w in
+    in-part d at s ys (omega (arith, size)) (saved .output)

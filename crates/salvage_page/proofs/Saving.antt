@@ -1,10 +1,9 @@
 -- A page tidied is written whole where there is room, and it is no longer than the page. Assumes nothing.
 use Prim.Native.Nat.{_≤_}
 use mathlib.Core.Path.{_≡_, sym, ap, _∙_}
-use mathlib.Core.Bool.{Bool, true, false}
 use mathlib.Core.Option.{none}
 use native.Mathlib.Omega.{arith}
-use lib.ListN.{length, length-take, length-drop}
+use lib.ListN.{length}
 use Rattle.octets.specs.Octets.{Bytes}
 use Rattle.refusal.specs.Checks.{firstOf}
 use Rattle.page_layout.specs.Places.{countAt}
@@ -14,33 +13,14 @@ use Rattle.page_writer.specs.Writing.{pageBytes, anyChecks, writeAnyTold, write
 use Rattle.page_writer.proofs.Writing.{any-writable}
 use Rattle.page_writer.proofs.RoundTrip.{size-same}
 use Rattle.stream.specs.Page.{Page, pageOf}
-use Rattle.salvage_rules.specs.Tidy.{withoutFirst, withoutLast, without, numbered, tidyPage}
+use Rattle.salvage_rules.specs.Tidy.{without, numbered, tidyPage}
 use Rattle.salvage_rules.specs.Links.{keptOf}
-use Rattle.salvage_rules.proofs.Bytes.{first-length, last-length}
 use Rattle.salvage_rules.proofs.Removing.{Fits, without-fits}
+use Rattle.salvage_rules.proofs.Room.{shorter}
 use Rattle.salvage_page.specs.Statements.{PageSaved, NoLonger, AnyPlace}
 use Rattle.salvage_page.proofs.Kept.{few-values}
 
 -- ---- no longer
-
-record Shorter (p new : Page) : Type 0 where
-  lacing : length (new .lacing) ≤ length (p .lacing)
-  body : length (new .body) ≤ length (p .body)
-
-first-shorter : (p : Page) → Shorter p (withoutFirst p)
-first-shorter p = record { lacing = first-length (p .lacing); body = simp length-drop (omega arith) }
-
-last-shorter : (p : Page) → Shorter p (withoutLast p)
-last-shorter p = record { lacing = last-length (p .lacing); body = simp length-take (omega arith) }
-
-shorter : (lead trail : Bool) (p : Page) → Shorter p (without lead trail p)
-shorter true true p =
-    let a = last-shorter p in
-    let b = first-shorter (withoutLast p) in
-    record { lacing = omega (arith, a .lacing, b .lacing); body = omega (arith, a .body, b .body) }
-shorter true false p = first-shorter p
-shorter false true p = last-shorter p
-shorter false false p = record { lacing = omega arith; body = omega arith }
 
 pub no-longer : NoLonger
 unfolding pageOf

@@ -32,20 +32,6 @@ fn goes_on(continued: bool, lacing: &[u8]) -> bool
     lacing[n - 1] == 255
 }
 
-// Whether a packet ends: a value is below 255.
-fn has_end(lacing: &[u8]) -> bool
-    ensures { λ r. ⌜ r ≡ ends (now (lacing .entry)) ⌝ }
-{
-    let mut i = 0;
-    while i < lacing.len() {
-        if lacing[i] < 255 {
-            return true;
-        }
-        i += 1;
-    }
-    false
-}
-
 // Whether the packet that the page continues goes on after it.
 fn goes_through(continued: bool, lacing: &[u8]) -> bool
     ensures { λ r. ⌜ r ≡ continued && not (ends (now (lacing .entry))) ⌝ }
@@ -53,7 +39,7 @@ fn goes_through(continued: bool, lacing: &[u8]) -> bool
     if !continued {
         return false;
     }
-    !has_end(lacing)
+    !recording_pages::has_end(lacing)
 }
 
 // What joins a page to its neighbours (RULES.md, 16; RFC 3533, 5 and 6): its number, whether it is marked continued, whether a

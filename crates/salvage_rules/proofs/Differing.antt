@@ -1,25 +1,23 @@
 -- A kept page differs from its old one as its lines tell. Assumes nothing.
-use Prim.Native.Nat.{ℕ, suc, _+_, _-_, _%_, _≤_}
+use Prim.Native.Nat.{ℕ, suc, _+_, _-_, _%_}
 use mathlib.Core.Path.{_≡_, refl, sym, ap, _∙_}
 use mathlib.Core.Logic.{inl, inr}
 use mathlib.Core.Bool.{Bool, true, false, not, _&&_, _||_}
 use mathlib.Core.List.{List, [], _∷_, _++_}
 use native.Mathlib.Omega.{arith}
 use borrow.Author.Tests.{eqb-true, not-false}
-use lib.ListN.{length, drop}
+use lib.ListN.{drop}
 use Rattle.octets.specs.Pick.{pick}
 use Rattle.octets.specs.Octets.{Bytes, Octets}
 use Rattle.octets.proofs.Tests.{both}
 use Rattle.page_lacing.specs.Lacing.{unfinished}
 use Rattle.page_layout.specs.declared.PageHeader.{PageHeader}
 use Rattle.page_writer.specs.Statements.{Fit}
-use Rattle.octets.proofs.Fields.{field-fits}
 use Rattle.octets.proofs.Parts.{octets-take, octets-drop}
-use Rattle.page_layout.specs.Places.{flagsAt, granuleAt, serialAt, sequenceAt, lacingAt}
-use Rattle.page_layout.specs.Page.{headerOf}
 use Rattle.page_size.specs.Size.{isOnePage}
 use Rattle.page_size.proofs.Whole.{body-length}
-use Rattle.page_writer.proofs.RoundTrip.{size-same, bytes-read}
+use Rattle.page_writer.proofs.RoundTrip.{bytes-read}
+use Rattle.page_writer.proofs.Fitting.{header-fit}
 use Rattle.page_writer.proofs.Written.{page}
 use Rattle.stream.specs.Page.{Page, pageOf, continued, ends}
 use Rattle.salvage_search.proofs.Starting.{true-false}
@@ -39,21 +37,9 @@ record Old (g : Good) : Type 0 where
   fits : Fits (g .page)
 
 module _ (p : Bytes) (o : Octets p) (one : isOnePage p ≡ true) where
-  long : lacingAt ≤ length p
-  long = omega (arith, size-same p one)
-
-  header-fit : Fit (headerOf p)
-  unfolding headerOf
-  header-fit = record {
-    flags = o .below flagsAt;
-    granule = field-fits 8 granuleAt p o (omega (arith, long));
-    serial = field-fits 4 serialAt p o (omega (arith, long));
-    sequence = field-fits 4 sequenceAt p o (omega (arith, long));
-  }
-
   pub old-page : Fit (pageOf p .header) × Fits (pageOf p)
   unfolding pageOf
-  old-page = (header-fit, body-length p one)
+  old-page = (header-fit p o one, body-length p one)
 
 old-of : (crc : Bytes → ℕ) (b : Bytes) (g : Good) → Octets b → Read crc b g → Old g
 old-of crc b g o r =

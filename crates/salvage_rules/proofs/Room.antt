@@ -32,9 +32,9 @@ use Rattle.salvage_rules.proofs.Pieces.{lastPart, last-total, last-many
 -- ---- the output
 
 -- no longer than the page p
-record Shorter (p new : Page) : Type 0 where
-  lacing : length (new .lacing) ≤ length (p .lacing)
-  body : length (new .body) ≤ length (p .body)
+pub record Shorter (p new : Page) : Type 0 where
+  pub lacing : length (new .lacing) ≤ length (p .lacing)
+  pub body : length (new .body) ≤ length (p .body)
 
 first-shorter : (p : Page) → Shorter p (withoutFirst p)
 first-shorter p = record { lacing = first-length (p .lacing); body = simp length-drop (omega arith) }
@@ -42,7 +42,7 @@ first-shorter p = record { lacing = first-length (p .lacing); body = simp length
 last-shorter : (p : Page) → Shorter p (withoutLast p)
 last-shorter p = record { lacing = last-length (p .lacing); body = simp length-take (omega arith) }
 
-shorter : (lead trail : Bool) (p : Page) → Shorter p (without lead trail p)
+pub shorter : (lead trail : Bool) (p : Page) → Shorter p (without lead trail p)
 shorter true true p =
     let a = last-shorter p in
     let b = first-shorter (withoutLast p) in

@@ -36,7 +36,7 @@ use Rattle.stream.proofs.Shift.{congruence}
 -- ---- one page, on states that differ in their granule position alone
 
 -- among the audio pages, written out so that the rules compute
-abbrev among : Carried → ℕ → ℕ → ℕ → ℕ → Position → State
+abbrev pub among : Carried → ℕ → ℕ → ℕ → ℕ → Position → State
 among cr serial next streams preskip position = record {
   phase = Audio;
   carried = cr;
@@ -113,7 +113,7 @@ module _ (R : Readings) (b : Bytes) (cr : Carried) (serial next streams preskip 
   unfolding nextOn
   next-on p q x e = rw e refl
 
-  meet : (p q : Position) → hasNone q ≡ true → completes page ≡ true → last page ≡ false → verdict R (on p) b ≡ none → SameStep R b (on p) (on q)
+  pub meet : (p q : Position) → hasNone q ≡ true → completes page ≡ true → last page ≡ false → verdict R (on p) b ≡ none → SameStep R b (on p) (on q)
   unfolding verdict stamped after expecting
   meet p q n e l v =
       let x : Seen = sees p in
@@ -155,7 +155,7 @@ none-held dropped e = absurd (true≢false e)
 none-held (held n h) e = absurd (true≢false e)
 
 -- a page that continues nothing passes where nothing is unfinished
-unheld : (R : Readings) (b : Bytes) (cr : Carried) (serial next streams preskip : ℕ) (q : Position) → continued (pageOf b) ≡ false
+pub unheld : (R : Readings) (b : Bytes) (cr : Carried) (serial next streams preskip : ℕ) (q : Position) → continued (pageOf b) ≡ false
     → verdict R (among cr serial next streams preskip q) b ≡ none → cr ≡ nothing
 unfolding expecting
 unheld R b cr serial next streams preskip q e v =

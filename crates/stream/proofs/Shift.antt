@@ -35,10 +35,10 @@ withNext : State → ℕ → State
 withNext s q = record { phase = s .phase; carried = s .carried; position = s .position; serial = s .serial; next = q; streams = s .streams; preskip = s .preskip }
 
 -- s expects the page b, t the page c
-record Shifted (R : Readings) (n : ℕ) (b c : Bytes) (s t : State) : Type 0 where
-  judged : firstOf (checksOn R t c (seen t (pageOf c))) ≡ firstOf (checksOn R s b (seen s (pageOf b)))
-  lists : stampsOn R t (pageOf c) (seen t (pageOf c)) ≡ stampsOn R s (pageOf b) (seen s (pageOf b))
-  follows : nextOn R t (pageOf c) (seen t (pageOf c)) ≡ stateShifted n (nextOn R s (pageOf b) (seen s (pageOf b)))
+pub record Shifted (R : Readings) (n : ℕ) (b c : Bytes) (s t : State) : Type 0 where
+  pub judged : firstOf (checksOn R t c (seen t (pageOf c))) ≡ firstOf (checksOn R s b (seen s (pageOf b)))
+  pub lists : stampsOn R t (pageOf c) (seen t (pageOf c)) ≡ stampsOn R s (pageOf b) (seen s (pageOf b))
+  pub follows : nextOn R t (pageOf c) (seen t (pageOf c)) ≡ stateShifted n (nextOn R s (pageOf b) (seen s (pageOf b)))
 
 module _ (R : Readings) (n : ℕ) (b c : Bytes) (k : BytesShifted R n b c) where
   same-seen : (s : State) → seen (stateShifted n s) (pageOf c) ≡ seen s (pageOf b)
@@ -80,7 +80,7 @@ module _ (R : Readings) (n : ℕ) (b c : Bytes) (k : BytesShifted R n b c) where
       (shifted-on (expectingIn Opened s (pageOf b)) (k .small))
   shifted-in s Ended f small = shifted-on s small
 
-  shifted-step : (s : State) → isFirst (s .phase) ≡ false → s .next < 2 ^ 32
+  pub shifted-step : (s : State) → isFirst (s .phase) ≡ false → s .next < 2 ^ 32
       → Shifted R n b c (expecting s (pageOf b)) (expecting (stateShifted n s) (pageOf c))
   unfolding expecting
   shifted-step s f small = shifted-in s (s .phase) f small

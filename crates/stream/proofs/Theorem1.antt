@@ -46,7 +46,7 @@ module _ (R : Readings) (b : Bytes) (bs : List Bytes) where
   abbrev h : Bytes
   h = leftFrom [] (segmentsOf page)
 
-  first-after : verdict R fresh b ≡ none → after R fresh b ≡ commenting Comment (carriedOf o h) (page .header .serial) ((0 + 1) % 2 ^ 32) head
+  pub first-after : verdict R fresh b ≡ none → after R fresh b ≡ commenting Comment (carriedOf o h) (page .header .serial) ((0 + 1) % 2 ^ 32) head
   unfolding after nextOn expecting seen headOf
   first-after v =
       let e : Expected (expecting fresh page) page = expected R fresh b v in

@@ -10,9 +10,10 @@ use Rattle.octets.specs.Octets.{Bytes}
 use Rattle.page_layout.specs.declared.PageHeader.{PageHeader}
 use Rattle.page_layout.specs.Page.{headerOf, lacingOf}
 use Rattle.stream.specs.Page.{pageOf, ends, completes}
+use Rattle.recording_pages.specs.Places.{pageAt}
+use Rattle.recording_pages.proofs.Pages.{page-within}
 use Rattle.index_walk.specs.declared.Walk.{Walk}
-use Rattle.index_walk.specs.Walk.{pageAt, steppedTo, nextOf}
-use Rattle.index_walk.proofs.Places.{page-within}
+use Rattle.index_walk.specs.Walk.{steppedTo, nextOf}
 use Rattle.index_walk.proofs.next.Statement.{statement}
 use Rattle.index_walk.proofs.next.Tie as tie
 
@@ -30,13 +31,13 @@ stepped b w p h l done page header lacing e = rw (e, lacing, header, page)
 
 returns : tie.Need-returns
 returns c =
-    let completes = c .before .before in
-    let header = completes .before .before in
+    let ended = c .before .before in
+    let header = ended .before .before in
     let start = header .before .before .before in
     c .step .ensures
     ∙ stepped (now (start .args .stream)) (start .args .w) (now (header .before .page-at .result)) (header .header-of .result)
-    (now (completes .before .lacing-of .result)) (completes .completes .result)
-    (header .before .page-at .ensures) (header .header-of .ensures) (completes .before .lacing-of .ensures) (completes .completes .ensures)
+    (now (ended .before .lacing-of .result)) (ended .has-end .result)
+    (header .before .page-at .ensures) (header .header-of .ensures) (ended .before .lacing-of .ensures) (ended .has-end .ensures)
 
 pub next-spec : {M : Type 1} → statement M
 next-spec =

@@ -14,7 +14,8 @@ use Rattle.recording.specs.declared.Judged.{Judged}
 use Rattle.recording.specs.declared.Step.the-variants.{Goes, Ends}
 use Rattle.recording.specs.Judging.{judgeBuffer}
 use Rattle.recording.specs.Answers.{toldJudged, judgeAfter, Within}
-use Rattle.recording.proofs.Steps.{step-on, step-ends, room-stays, from-start}
+use Rattle.recording.proofs.Steps.{step-on, step-ends, from-start}
+use Rattle.recording.proofs.Streams.{room-stays}
 use Rattle.recording.proofs.judge_in.Statement.{statement}
 use Rattle.recording.proofs.judge_in.Tie as tie
 

@@ -1,0 +1,69 @@
+//! A stream cropped at a page.
+
+use crate::reserved::Reserved;
+use crate::{accepted, ffi};
+
+/// Where a crop begins: its page, the first of the stream being 0, and the position at which the
+/// first packet of that page starts.
+pub struct Start {
+    pub page: u64,
+    pub position: u64,
+}
+
+/// The last page up to `last` at which a crop may begin and whose first packet starts at or before
+/// a position; or the number of the refusal.
+pub fn start_of(stream: &[u8], last: u64, position: u64) -> Result<Start, u32> {
+    let mut start = [0; 2];
+    // SAFETY: the pointer and the length are those of one slice, and `start` has the two places
+    // that are written.
+    let number = unsafe {
+        ffi::embulgri_crop_start(
+            stream.as_ptr(),
+            stream.len(),
+            last,
+            position,
+            start.as_mut_ptr(),
+        )
+    };
+    let [page, position] = start;
+    accepted(number).map(|()| Start { page, position })
+}
+
+/// The memory that a crop is lent: room that always suffices, touched where it is written.
+pub struct Crop {
+    out: Reserved<u8>,
+    written: u64,
+}
+
+impl Crop {
+    /// For a stream of n bytes; nothing where there is not so much memory.
+    pub fn of(n: usize) -> Option<Crop> {
+        Some(Crop {
+            out: Reserved::for_writing(n)?,
+            written: 0,
+        })
+    }
+
+    /// Crops the stream at a page; or gives the number of the refusal.
+    pub fn run(&mut self, stream: &[u8], page: u64) -> Result<(), u32> {
+        let out = self.out.all_mut();
+        // SAFETY: each pointer goes with the length of its own slice, and `written` is the one
+        // place that is written beside `out`; both are borrowed mutably, so they overlap nothing.
+        let number = unsafe {
+            ffi::embulgri_crop(
+                stream.as_ptr(),
+                stream.len(),
+                page,
+                out.as_mut_ptr(),
+                out.len(),
+                &mut self.written,
+            )
+        };
+        accepted(number)
+    }
+
+    /// The stream that is left.
+    pub fn stream(&self) -> &[u8] {
+        &self.out.all()[..self.written as usize]
+    }
+}

@@ -1,0 +1,3 @@
+pub mod Putting
+pub mod Starting
+pub mod Cropping

@@ -1,0 +1,4 @@
+pub mod Crop
+pub mod Cropping
+pub mod Statements
+pub mod Instances

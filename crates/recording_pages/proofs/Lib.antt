@@ -1,0 +1,4 @@
+pub mod Pages
+pub mod Places
+pub mod Headers
+pub mod HeaderPlaces
