@@ -342,6 +342,21 @@ uint32_t embulgri_crop(const uint8_t *stream, size_t n, uint64_t page, uint8_t *
  * and the position 1,000 store 3 and 960. */
 uint32_t embulgri_crop_start(const uint8_t *stream, size_t n, uint64_t last, uint64_t position, uint64_t start[2]);
 
+/* Checks a whole stream for what its writer was advised against. kinds and pages: one place of each for each finding, by page,
+ * the first being page 0, and on one page by kind:
+ *   1   the last packet is left unfinished; on the last page
+ *   2   no page is marked last; on the last page, also where that is one of the headers
+ *   3   more samples are trimmed than the last packet has; on the last page
+ *   4   the comment header has a REPLAYGAIN tag; once, on the page where it completes
+ *   5   a hole lies before the packets of the page
+ * *count is how many they are; places past them stay as they were. Lists of n / 27 + 5 places always suffice.
+ *   2 to 18, 24  the stream is not whole, by this number of embulgri_judge
+ *   22  neither, and the shorter list has fewer places than there are findings
+ *   0   neither
+ * Example: the two header pages of a stream alone store the kind 2, the page 1 and the count 1. */
+uint32_t embulgri_check(const uint8_t *stream, size_t n, uint64_t *kinds, size_t kinds_n, uint64_t *pages, size_t pages_n,
+                        uint64_t *count);
+
 /* ---- the lines that the program embulgri prints; these calls are for it, and may change with it */
 
 /* Puts the line above all packets of a listing into out from place at on. It returns the place after it, or at itself

@@ -31,6 +31,8 @@ pub enum Task {
         begin: Begin,
         out: OsString,
     },
+    /// Check it for what its writer was advised against, and explain what is found.
+    Check { recording: Name, explain: bool },
     /// Print this text.
     Print(String),
     /// Say how the program is used, since nothing was asked for.
@@ -43,38 +45,47 @@ pub enum Begin {
     Position(u64),
 }
 
-/// What may follow the first word: so many words, and an option with one more.
+/// What may follow the first word: so many words, an option with one more, and an option alone.
 struct Most {
     words: usize,
     option: Option<&'static str>,
+    flag: Option<&'static str>,
 }
 
-const ONE_WORD: Most = Most {
-    words: 1,
-    option: None,
-};
-
-const TWO_WORDS: Most = Most {
-    words: 2,
-    option: None,
-};
+impl Most {
+    /// Words alone.
+    const fn words(n: usize) -> Most {
+        Most {
+            words: n,
+            option: None,
+            flag: None,
+        }
+    }
+}
 
 const SEEK_WORDS: Most = Most {
-    words: 2,
     option: Some("--index"),
+    ..Most::words(2)
 };
 
 const CROP_WORDS: Most = Most {
-    words: 3,
     option: Some("--at"),
+    ..Most::words(3)
 };
 
-/// What follows the first word: a wish for help; or words, and the one after the option.
+const CHECK_WORDS: Most = Most {
+    flag: Some("--explain"),
+    ..Most::words(1)
+};
+
+/// What follows the first word: a wish for help; or words, the one after the option, and whether
+/// the option that stands alone is there.
 enum Rest {
     Help,
     Words {
         plain: Vec<OsString>,
         option: Option<OsString>,
+        flag: bool,
     },
 }
 
@@ -90,6 +101,7 @@ pub fn task_of(words: &[OsString]) -> Result<Task, Trouble> {
         b"seek" => seek_task(rest),
         b"salvage" => salvage_task(rest),
         b"crop" => crop_task(rest),
+        b"check" => check_task(rest),
         b"explain" => explain_task(rest),
         b"--help" | b"-h" => Ok(Task::Print(help::ALL.into())),
         b"--version" => Ok(Task::Print(help::version())),
@@ -100,7 +112,7 @@ pub fn task_of(words: &[OsString]) -> Result<Task, Trouble> {
 
 /// A task on a file.
 fn file_task(words: &[OsString], task: fn(Name) -> Task, help: &str) -> Result<Task, Trouble> {
-    match rest_of(words, ONE_WORD)? {
+    match rest_of(words, Most::words(1))? {
         Rest::Help => Ok(Task::Print(help.into())),
         Rest::Words { mut plain, .. } => Ok(task(plain.pop().and_then(named))),
     }
@@ -108,7 +120,10 @@ fn file_task(words: &[OsString], task: fn(Name) -> Task, help: &str) -> Result<T
 
 /// To seek the position that the last word is.
 fn seek_task(words: &[OsString]) -> Result<Task, Trouble> {
-    let Rest::Words { mut plain, option } = rest_of(words, SEEK_WORDS)? else {
+    let Rest::Words {
+        mut plain, option, ..
+    } = rest_of(words, SEEK_WORDS)?
+    else {
         return Ok(Task::Print(help::SEEK.into()));
     };
     let Some(word) = plain.pop() else {
@@ -132,7 +147,7 @@ fn seek_task(words: &[OsString]) -> Result<Task, Trouble> {
 
 /// To salvage the first word's file to the second's.
 fn salvage_task(words: &[OsString]) -> Result<Task, Trouble> {
-    let Rest::Words { mut plain, .. } = rest_of(words, TWO_WORDS)? else {
+    let Rest::Words { mut plain, .. } = rest_of(words, Most::words(2))? else {
         return Ok(Task::Print(help::SALVAGE.into()));
     };
     match (plain.pop(), plain.pop()) {
@@ -150,7 +165,7 @@ fn salvage_task(words: &[OsString]) -> Result<Task, Trouble> {
 /// To crop the first word's file to the last one's, at the page between them or at the option's
 /// position.
 fn crop_task(words: &[OsString]) -> Result<Task, Trouble> {
-    let Rest::Words { plain, option } = rest_of(words, CROP_WORDS)? else {
+    let Rest::Words { plain, option, .. } = rest_of(words, CROP_WORDS)? else {
         return Ok(Task::Print(help::CROP.into()));
     };
     let (input, begin, out) = match (plain.as_slice(), option) {
@@ -180,9 +195,23 @@ fn crop_task(words: &[OsString]) -> Result<Task, Trouble> {
     })
 }
 
+/// To check the word's file, and to explain what is found where that is wished.
+fn check_task(words: &[OsString]) -> Result<Task, Trouble> {
+    let Rest::Words {
+        mut plain, flag, ..
+    } = rest_of(words, CHECK_WORDS)?
+    else {
+        return Ok(Task::Print(help::CHECK.into()));
+    };
+    Ok(Task::Check {
+        recording: plain.pop().and_then(named),
+        explain: flag,
+    })
+}
+
 /// To print what a number means.
 fn explain_task(words: &[OsString]) -> Result<Task, Trouble> {
-    let Rest::Words { mut plain, .. } = rest_of(words, ONE_WORD)? else {
+    let Rest::Words { mut plain, .. } = rest_of(words, Most::words(1))? else {
         return Ok(Task::Print(help::EXPLAIN.into()));
     };
     let Some(word) = plain.pop() else {
@@ -199,7 +228,7 @@ fn explain_task(words: &[OsString]) -> Result<Task, Trouble> {
 
 /// What follows the first word. After "--" nothing is taken for an option.
 fn rest_of(words: &[OsString], most: Most) -> Result<Rest, Trouble> {
-    let (mut plain, mut option) = (Vec::new(), None);
+    let (mut plain, mut option, mut flag) = (Vec::new(), None, false);
     let mut options = true;
     let mut words = words.iter();
     while let Some(word) = words.next() {
@@ -211,6 +240,12 @@ fn rest_of(words: &[OsString], most: Most) -> Result<Rest, Trouble> {
                 Some(next) => option = Some(next.clone()),
                 None => return Err(misused("nothing after", word)),
             },
+            _ if options && most.flag.is_some_and(|name| word == name) => {
+                if flag {
+                    return Err(misused("one option too many", word));
+                }
+                flag = true;
+            }
             text if options && text.len() > 1 && text[0] == b'-' => {
                 return Err(misused("unknown option", word));
             }
@@ -218,7 +253,11 @@ fn rest_of(words: &[OsString], most: Most) -> Result<Rest, Trouble> {
             _ => plain.push(word.clone()),
         }
     }
-    Ok(Rest::Words { plain, option })
+    Ok(Rest::Words {
+        plain,
+        option,
+        flag,
+    })
 }
 
 /// What a word names where a file is due: "-" is standard input.

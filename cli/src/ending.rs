@@ -8,6 +8,9 @@ use embulgri::reader::Reader;
 pub enum Ending {
     /// It is done.
     Done,
+    /// The stream is whole, and something was found in it that its writer was advised against; the
+    /// lines that say so are printed.
+    Advised,
     /// This page, which starts at this byte of the input, was refused by this number; the line that
     /// says so is printed.
     Refused { number: u32, page: u64, at: u64 },

@@ -99,6 +99,15 @@ extern "C" {
         position: u64,
         start: *mut u64,
     ) -> u32;
+    pub fn embulgri_check(
+        stream: *const u8,
+        n: usize,
+        kinds: *mut u64,
+        kinds_n: usize,
+        pages: *mut u64,
+        pages_n: usize,
+        count: *mut u64,
+    ) -> u32;
     pub fn embulgri_list_first(out: *mut u8, out_n: usize, at: u64) -> u64;
     pub fn embulgri_list_total(state: *const u64, out: *mut u8, out_n: usize, at: u64) -> u64;
     pub fn embulgri_list_refused(

@@ -19,6 +19,9 @@ usage: embulgri list [FILE]   one line a packet: its end stamp, its length, its
        embulgri crop IN --at POSITION OUT
                               the recording from a page on, or from the last one
                               that starts at or before POSITION, to OUT
+       embulgri check [FILE] [--explain]
+                              whether the recording is accepted; one line for
+                              each thing that its writer was advised against
        embulgri explain N     what the number of a refusal means
        embulgri --help        this text; embulgri list --help says more of list,
                               and so on
@@ -30,6 +33,7 @@ taken for an option.
 
 exit status:
   0  done
+  1  check: accepted, and something was found that the writer was advised against
   2  refused: the last line is \"refused N page K\" for a page, and \"refused N
      place P\" for an index; where it is neither, as where a header is lost or no
      crop begins there, \"refused N\". Standard error says what that means
@@ -184,14 +188,44 @@ is made in memory. IN must not change meanwhile.
 exit status: 0 cropped, 2 refused, 3 trouble
 ";
 
+/// What `check` prints.
+pub const CHECK: &str = "\
+usage: embulgri check [FILE] [--explain]
+
+Checks an Ogg Opus recording for what RFC 7845 advises its writer against. One
+line is printed for each finding, and then \"accepted\":
+  unfinished page K  the last packet, on the last page, does not complete
+  no-end page K      the last page is not marked as the end of the stream
+  trimmed page K     the last page discards more samples than the last packet
+                     that completes has
+  replaygain page K  the comments, which complete on this page, have one of the
+                     REPLAYGAIN tags of tracks and albums, for a gain or a peak
+  hole page K        by the granule positions, samples are missing before the
+                     packets of this page
+Pages are counted from 0, and the lines are in the order of the pages. All these
+are accepted all the same. Where a page breaks a rule, \"refused N page K\"
+is the only line, and where the recording ends before its comment header is
+complete, \"refused 24\".
+
+With --explain standard error says, in one sentence for each kind of finding,
+what is advised and what a listener or a player will notice.
+
+Without FILE, or where it is \"-\", standard input is read. A file is mapped: it
+may grow meanwhile, but what it has must stay as it is. Any other input is read
+into memory whole. A finding takes 16 bytes of memory more.
+
+exit status: 0 accepted without a finding, 1 accepted with at least one, 2
+refused, 3 trouble
+";
+
 /// What `explain` prints.
 pub const EXPLAIN: &str = "\
 usage: embulgri explain N
 
 Says what the number N of \"refused N page K\" means. There are numbers from 1 to
-24, and 26, 29 and 30. Those from 2 to 18 end a listing; these, 24 and 26 are
-given by index and seek, 24 by salvage, and those from 2 to 18, 24 and 29 by
-crop. The others are told to programs that call the library.
+24, and 26, 29 and 30. Those from 2 to 18 end a listing; these and 24 are given
+by index, seek, crop and check, 24 by salvage, 26 by seek and 29 by crop. The
+others are told to programs that call the library.
 
 exit status: 0 said, 3 there is no such number
 ";

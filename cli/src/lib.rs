@@ -3,6 +3,7 @@
 //! lent memory from overlapping, as the library asks. Numbers of refusals are those of
 //! docs/RULES.md, 2.
 
+pub mod checking;
 pub mod cropping;
 mod ffi;
 pub mod lines;

@@ -1,12 +1,14 @@
 //! The program `embulgri`. It maps or reads its input, lends memory to the verified library, and
 //! prints what the library's functions put there; what is accepted, refused and printed of a
-//! recording is decided by these alone.
+//! recording is decided by these alone. Of the lines of `check` only the words are its own.
 //!
 //! It has no `main` of Rust's own: that would open /dev/null in place of a standard stream that is
 //! closed, so that a listing could be lost with status 0.
 #![no_main]
 
+mod advice;
 mod arguments;
+mod check;
 mod crop;
 mod ending;
 mod help;
@@ -63,6 +65,9 @@ fn run(task: Task) -> Result<c_int, Trouble> {
         Task::Crop { input, begin, out } => {
             follow(Input::open(input)?, |input| crop::crop(input, &begin, &out))
         }
+        Task::Check { recording, explain } => follow(Input::open(recording)?, |input| {
+            check::check(input, explain)
+        }),
         Task::Print(text) => output::print(&text).map(|()| 0),
         Task::Usage => {
             show(help::ALL);
@@ -88,6 +93,7 @@ fn follow(
 ) -> Result<c_int, Trouble> {
     let (number, what) = match task(&mut input)? {
         Ending::Done => return Ok(0),
+        Ending::Advised => return Ok(1),
         Ending::StreamRefused { number } => (number, "the stream is".into()),
         Ending::CropRefused { number } => (number, "the crop is".into()),
         Ending::Refused { number, page, at } => (

@@ -3,6 +3,7 @@
 use crate::ending::Ending;
 use crate::trouble::Trouble;
 use embulgri::lines::{self, Put};
+use std::fmt;
 use std::fs::File;
 use std::io::Write;
 use std::mem::ManuallyDrop;
@@ -44,6 +45,11 @@ impl Output {
         }
         self.filled = at;
         Ok(())
+    }
+
+    /// Puts a line of the program's own.
+    pub fn put_text(&mut self, line: fmt::Arguments) -> Result<(), Trouble> {
+        self.put(|out, at| put_at(line, out, at))
     }
 
     /// Puts so many lines. The function puts those from a number on, as many as surely fit.
@@ -98,6 +104,16 @@ impl Output {
         self.file
             .write_all(waiting)
             .map_err(|why| Trouble::writing(&why))
+    }
+}
+
+/// Puts a line at a place, and gives the place after it, or the same place where it does not fit.
+fn put_at(line: fmt::Arguments, out: &mut [u8], at: usize) -> usize {
+    let n = out.len();
+    let mut free = &mut out[at..];
+    match free.write_fmt(line) {
+        Ok(()) => n - free.len(),
+        Err(_) => at,
     }
 }
 

@@ -43,10 +43,12 @@ impl Occasion {
     }
 }
 
-/// A page of a stream, and the packets that it lists.
+/// A page of a stream, the packets that it lists, the samples that it trims and its hole.
 pub struct Fed {
     pub page: Page,
     pub packets: Vec<Entry>,
+    pub trimmed: u64,
+    pub hole: u64,
 }
 
 /// A whole stream.
@@ -74,9 +76,12 @@ impl Whole {
                 lists: lists.each_mut().map(|list| &mut list[..]),
             };
             let told = feeding::feed(&mut reader, page, &mut lent);
+            let told = told.expect("a page of a whole stream");
             pages.push(Fed {
                 page: ogg::read(page).expect("a right page"),
-                packets: told.expect("a page of a whole stream").entries,
+                packets: told.entries,
+                trimmed: told.trimmed,
+                hole: told.hole,
             });
             start = end;
         }

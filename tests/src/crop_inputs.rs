@@ -28,7 +28,7 @@ pub struct Stream {
 }
 
 /// The bytes of pages.
-fn bytes_of(pages: &[Written]) -> Vec<u8> {
+pub fn bytes_of(pages: &[Written]) -> Vec<u8> {
     pages
         .iter()
         .flat_map(|written| ogg::encode(&written.page))
@@ -36,7 +36,7 @@ fn bytes_of(pages: &[Written]) -> Vec<u8> {
 }
 
 /// A header of one stream, sometimes of two or three.
-fn little_head(random: &mut Random) -> Head {
+pub fn little_head(random: &mut Random) -> Head {
     let mut head = match random.below(4) {
         0 => {
             let streams = random.within(2..=3);
@@ -58,7 +58,7 @@ fn little_comments(random: &mut Random) -> Vec<u8> {
 }
 
 /// The packet of a header.
-fn header(bytes: Vec<u8>) -> [Sound; 1] {
+pub fn header(bytes: Vec<u8>) -> [Sound; 1] {
     [Sound { bytes, samples: 0 }]
 }
 
@@ -127,10 +127,10 @@ pub fn whole_stream(random: &mut Random) -> Stream {
     }
 }
 
-/// A stream that mostly is not whole: with a wrong page or damaged, without a whole header, or cut
-/// anywhere.
-fn wrong_stream(random: &mut Random) -> Stream {
-    let Recording { pages, headers, .. } = any_recording(random);
+/// A stream that mostly is not whole: a recording with a wrong page or damaged, without a whole header,
+/// or cut anywhere.
+pub fn wrong_stream(random: &mut Random, recording: Recording) -> Stream {
+    let Recording { pages, headers, .. } = recording;
     let (bytes, name) = match random.below(16) {
         0 => (Vec::new(), "empty".to_string()),
         1 => {
@@ -164,7 +164,10 @@ fn wrong_stream(random: &mut Random) -> Stream {
 /// A stream: three of four are whole.
 pub fn stream(random: &mut Random) -> Stream {
     match random.one_in(4) {
-        true => wrong_stream(random),
+        true => {
+            let recording = any_recording(random);
+            wrong_stream(random, recording)
+        }
         false => whole_stream(random),
     }
 }

@@ -1,7 +1,7 @@
 //! What the tests of the Embulgri library share. The library is called over its C interface and
 //! held to an independent implementation, [`ogg`], [`opus`], [`head`], [`tags`], [`feeding`],
-//! [`buffer_pages`], [`judging`], [`index`], [`salvage`], [`crop`], [`lines`], [`header_text`] and
-//! [`clock`], on inputs from a deterministic generator.
+//! [`buffer_pages`], [`judging`], [`index`], [`salvage`], [`crop`], [`check`], [`lines`],
+//! [`header_text`] and [`clock`], on inputs from a deterministic generator.
 
 pub mod accepted;
 pub mod buffer_inputs;
@@ -9,6 +9,13 @@ pub mod buffer_pages;
 pub mod by_hand;
 pub mod calls;
 pub mod changed_numbers;
+pub mod check;
+pub mod check_audio;
+pub mod check_by_hand;
+pub mod check_calls;
+pub mod check_classes;
+pub mod check_comments;
+pub mod check_inputs;
 pub mod clock;
 pub mod clock_inputs;
 pub mod counted;
@@ -27,6 +34,7 @@ pub mod feed_faults;
 pub mod feed_headers;
 pub mod feeding;
 pub mod ffi;
+pub mod ffi_check;
 pub mod ffi_crop;
 pub mod ffi_index;
 pub mod ffi_lines;

@@ -4,3 +4,4 @@ pub mod Judging
 pub mod Indexes
 pub mod Savings
 pub mod Croppings
+pub mod Checkings

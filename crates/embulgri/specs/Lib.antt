@@ -5,3 +5,4 @@ pub mod Streams
 pub mod Index
 pub mod Saving
 pub mod Cropping
+pub mod Checking

@@ -23,6 +23,7 @@ use tags_layout::PartRead;
 use tags_reader::TagsRead;
 use tags_writer::TagsWritten;
 
+pub mod checking;
 pub mod cropping;
 pub mod feeding;
 pub mod heads;

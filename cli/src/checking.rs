@@ -1,0 +1,64 @@
+//! A stream checked for what its writer was advised against.
+
+use crate::reserved::Reserved;
+use crate::{accepted, ffi};
+
+/// Something that a writer was advised against: its kind, by its number, and its page, the first of
+/// the stream being 0.
+pub struct Finding {
+    pub kind: u64,
+    pub page: u64,
+}
+
+/// The memory that a check is lent: room that always suffices, touched where it is written.
+pub struct Check {
+    kinds: Reserved<u64>,
+    pages: Reserved<u64>,
+    count: u64,
+}
+
+impl Check {
+    /// For a stream of n bytes; nothing where there is not so much memory. A page has at least 27
+    /// bytes, and there are at most four findings more than pages.
+    pub fn of(n: usize) -> Option<Check> {
+        let findings = n / 27 + 5;
+        Some(Check {
+            kinds: Reserved::of(findings)?,
+            pages: Reserved::of(findings)?,
+            count: 0,
+        })
+    }
+
+    /// Checks the stream; or gives the number of the refusal.
+    pub fn run(&mut self, stream: &[u8]) -> Result<(), u32> {
+        let (kinds, pages) = (self.kinds.all_mut(), self.pages.all_mut());
+        // SAFETY: each pointer goes with the length of its own slice, and `count` is the one place
+        // that is written beside the lists; all but the stream are borrowed mutably, so they
+        // overlap nothing.
+        let number = unsafe {
+            ffi::embulgri_check(
+                stream.as_ptr(),
+                stream.len(),
+                kinds.as_mut_ptr(),
+                kinds.len(),
+                pages.as_mut_ptr(),
+                pages.len(),
+                &mut self.count,
+            )
+        };
+        accepted(number)
+    }
+
+    /// How many findings there are.
+    pub fn count(&self) -> usize {
+        self.count as usize
+    }
+
+    /// The finding with this number, the first being 0.
+    pub fn finding(&self, i: usize) -> Finding {
+        Finding {
+            kind: self.kinds.all()[i],
+            page: self.pages.all()[i],
+        }
+    }
+}

@@ -1,0 +1,6 @@
+mod Storing
+mod Laws
+mod Turning
+mod Comment
+mod Gathering
+mod Finding

@@ -1,0 +1,1 @@
+// No code: what our own writers make is free of findings, in `specs/Written.antt`.
