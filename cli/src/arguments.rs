@@ -89,6 +89,17 @@ enum Rest {
     },
 }
 
+/// The words but "--quiet", and whether it is one of them. After "--" no word is taken for it.
+pub fn without_quiet(mut words: Vec<OsString>) -> (Vec<OsString>, bool) {
+    let end = words.iter().position(|word| word == "--");
+    let mut others = words.split_off(end.unwrap_or(words.len()));
+    let count = words.len();
+    words.retain(|word| word != "--quiet");
+    let quiet = words.len() < count;
+    words.append(&mut others);
+    (words, quiet)
+}
+
 /// The task that the words after the program's name ask for.
 pub fn task_of(words: &[OsString]) -> Result<Task, Trouble> {
     let Some((first, rest)) = words.split_first() else {

@@ -31,6 +31,10 @@ Without FILE, or where it or IN is \"-\", standard input is read. A file that is
 read, IN too, must not change meanwhile; it may grow. After \"--\" no word is
 taken for an option.
 
+Where standard error is a terminal, it shows how far the work on a file of more
+than 64 MiB has come, until lines are printed on a terminal; with --quiet, which
+any command takes, it does not.
+
 exit status:
   0  done
   1  check: accepted, and something was found that the writer was advised against

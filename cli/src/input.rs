@@ -8,6 +8,8 @@ use std::io::{ErrorKind, Read, Seek, SeekFrom};
 use std::mem::ManuallyDrop;
 use std::os::fd::FromRawFd;
 use std::os::unix::fs::MetadataExt;
+use std::sync::atomic::{AtomicU64, Ordering};
+use std::sync::Arc;
 
 /// What is read of an input that is not mapped: a page, which has at most 65,307 bytes, and more.
 const ROOM: usize = 262_144;
@@ -18,8 +20,8 @@ pub struct Input {
     source: Source,
     from: usize,
     to: usize,
-    /// The bytes before place `from` that were fed.
-    fed: u64,
+    /// The bytes before place `from` that were fed. Only the thread that has the input changes it.
+    fed: Arc<AtomicU64>,
     /// What tells its file from others.
     identity: (u64, u64),
 }
@@ -67,7 +69,7 @@ impl Input {
             source,
             from,
             to,
-            fed: 0,
+            fed: Arc::default(),
             identity,
         }
     }
@@ -105,22 +107,35 @@ impl Input {
 
     /// Where they start in the input.
     pub fn place(&self) -> u64 {
-        self.fed
+        self.fed.load(Ordering::Relaxed)
+    }
+
+    /// Where they start, for another thread to look at.
+    pub fn taken(&self) -> Arc<AtomicU64> {
+        self.fed.clone()
+    }
+
+    /// The size of a mapped input; of any other it is not known.
+    pub fn size(&self) -> Option<u64> {
+        match self.source {
+            Source::Mapped(_) => Some(self.place() + self.bytes().len() as u64),
+            Source::Pieces { .. } => None,
+        }
     }
 
     /// Takes the first n of them for fed.
     pub fn take(&mut self, n: usize) {
         self.from += n;
-        self.fed += n as u64;
+        self.fed.store(self.place() + n as u64, Ordering::Relaxed);
     }
 
     /// Takes the bytes up to a place of the input, none before those at hand, for fed; false where
     /// the input ends before that place.
     pub fn skip_to(&mut self, place: u64) -> Result<bool, Trouble> {
         loop {
-            let left = place - self.fed;
+            let left = place - self.place();
             self.take(left.min(self.bytes().len() as u64) as usize);
-            if self.fed == place {
+            if self.place() == place {
                 return Ok(true);
             }
             if !self.read_more()? {

@@ -20,17 +20,20 @@ mod mapping;
 mod meanings;
 mod numbers;
 mod output;
+mod progress;
 mod replaced;
 mod salvage;
 mod seek;
 mod signals;
 mod tags;
+mod terminal;
 mod trouble;
 
 use crate::arguments::{Name, Task};
 use crate::ending::Ending;
 use crate::input::Input;
-use crate::trouble::{say, show, Trouble};
+use crate::progress::{Progress, Shown};
+use crate::trouble::{say, Trouble};
 use std::ffi::{c_char, c_int};
 
 /// Does what the arguments ask for, and gives the exit status. The C library calls it; Rust's own
@@ -39,6 +42,10 @@ use std::ffi::{c_char, c_int};
 pub extern "C" fn main(_count: c_int, _words: *const *const c_char) -> c_int {
     signals::prepare();
     let words: Vec<_> = std::env::args_os().skip(1).collect();
+    let (words, quiet) = arguments::without_quiet(words);
+    if quiet {
+        terminal::end();
+    }
     match arguments::task_of(&words).and_then(run) {
         Ok(status) => status,
         Err(trouble) => {
@@ -51,26 +58,35 @@ pub extern "C" fn main(_count: c_int, _words: *const *const c_char) -> c_int {
 /// Does a task, and gives the exit status.
 fn run(task: Task) -> Result<c_int, Trouble> {
     match task {
-        Task::List(name) => follow(Input::open(name)?, list::list),
-        Task::Tags(name) => follow(Input::open(name)?, tags::tags),
-        Task::Index(name) => follow(Input::open(name)?, index::index),
+        Task::List(name) => follow(Input::open(name)?, Shown::Share, list::list),
+        Task::Tags(name) => follow(Input::open(name)?, Shown::Share, tags::tags),
+        Task::Index(name) => follow(Input::open(name)?, Shown::Seconds("index"), index::index),
         Task::Seek {
             recording,
             position,
             listing,
         } => seek(Input::open(recording)?, position, listing),
         Task::Salvage { input, out } => {
-            follow(Input::open(input)?, |input| salvage::salvage(input, &out))
+            let shown = Shown::Seconds("salvage");
+            follow(Input::open(input)?, shown, |input| {
+                salvage::salvage(input, &out)
+            })
         }
         Task::Crop { input, begin, out } => {
-            follow(Input::open(input)?, |input| crop::crop(input, &begin, &out))
+            let shown = Shown::Seconds("crop");
+            follow(Input::open(input)?, shown, |input| {
+                crop::crop(input, &begin, &out)
+            })
         }
-        Task::Check { recording, explain } => follow(Input::open(recording)?, |input| {
-            check::check(input, explain)
-        }),
+        Task::Check { recording, explain } => {
+            let shown = Shown::Seconds("check");
+            follow(Input::open(recording)?, shown, |input| {
+                check::check(input, explain)
+            })
+        }
         Task::Print(text) => output::print(&text).map(|()| 0),
         Task::Usage => {
-            show(help::ALL);
+            terminal::show(help::ALL);
             Ok(3)
         }
     }
@@ -78,20 +94,25 @@ fn run(task: Task) -> Result<c_int, Trouble> {
 
 /// Seeks a position in a recording, by its own index or by a listing.
 fn seek(mut recording: Input, position: u64, listing: Option<Name>) -> Result<c_int, Trouble> {
+    let shown = Shown::Seconds("seek");
     match listing {
-        None => follow(recording, |input| seek::seek(input, position)),
-        Some(name) => follow(Input::open(name)?, |listing| {
+        None => follow(recording, shown, |input| seek::seek(input, position)),
+        Some(name) => follow(Input::open(name)?, shown, |listing| {
             seek::seek_by(listing, &mut recording, position)
         }),
     }
 }
 
-/// Follows an input, and says in words why it was refused.
+/// Follows an input, shows how far that has come, and says in words why it was refused.
 fn follow(
     mut input: Input,
+    shown: Shown,
     task: impl FnOnce(&mut Input) -> Result<Ending, Trouble>,
 ) -> Result<c_int, Trouble> {
-    let (number, what) = match task(&mut input)? {
+    let progress = Progress::of(&input, shown);
+    let ending = task(&mut input)?;
+    drop(progress);
+    let (number, what) = match ending {
         Ending::Done => return Ok(0),
         Ending::Advised => return Ok(1),
         Ending::StreamRefused { number } => (number, "the stream is".into()),

@@ -1,11 +1,12 @@
 //! Standard output, through one buffer of a fixed size.
 
 use crate::ending::Ending;
+use crate::terminal;
 use crate::trouble::Trouble;
 use embulgri::lines::{self, Put};
 use std::fmt;
 use std::fs::File;
-use std::io::Write;
+use std::io::{IsTerminal, Write};
 use std::mem::ManuallyDrop;
 use std::os::fd::FromRawFd;
 
@@ -14,6 +15,8 @@ pub struct Output {
     room: Vec<u8>,
     filled: usize,
     file: ManuallyDrop<File>,
+    /// What is written is seen by people, who are then shown no progress.
+    seen: bool,
 }
 
 impl Output {
@@ -21,11 +24,12 @@ impl Output {
     pub fn with_room(n: usize) -> Output {
         // SAFETY: descriptor 1 is never closed here, since what is not dropped is not closed; where
         // it was closed from the start, writing to it fails and does no more.
-        let file = unsafe { File::from_raw_fd(1) };
+        let file = ManuallyDrop::new(unsafe { File::from_raw_fd(1) });
         Output {
             room: vec![0; n],
             filled: 0,
-            file: ManuallyDrop::new(file),
+            seen: file.is_terminal(),
+            file,
         }
     }
 
@@ -99,6 +103,9 @@ impl Output {
 
     /// Writes what waits.
     pub fn write(&mut self) -> Result<(), Trouble> {
+        if self.seen {
+            terminal::end();
+        }
         let waiting = &self.room[..self.filled];
         self.filled = 0;
         self.file

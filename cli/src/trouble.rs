@@ -1,7 +1,8 @@
 //! What ends the program with status 3, and how it speaks on standard error.
 
+use crate::terminal;
 use std::fmt;
-use std::io::{self, Write};
+use std::io;
 
 /// A message for standard error.
 pub struct Trouble(String);
@@ -36,10 +37,5 @@ impl fmt::Display for Trouble {
 
 /// Says a message on standard error.
 pub fn say(message: impl fmt::Display) {
-    show(&format!("embulgri: {message}\n"));
-}
-
-/// Shows a text on standard error. Where that fails, there is nothing left to say it to.
-pub fn show(text: &str) {
-    let _ = io::stderr().write_all(text.as_bytes());
+    terminal::show(&format!("embulgri: {message}\n"));
 }
