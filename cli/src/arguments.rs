@@ -1,8 +1,9 @@
 //! What the arguments ask for.
 
+use crate::help;
 use crate::numbers::decimal;
 use crate::trouble::Trouble;
-use crate::{help, meanings};
+use embulgri::refusal::Refusal;
 use std::ffi::{OsStr, OsString};
 use std::os::unix::ffi::OsStrExt;
 
@@ -228,13 +229,23 @@ fn explain_task(words: &[OsString]) -> Result<Task, Trouble> {
     let Some(word) = plain.pop() else {
         return Err(misused_by("explain", "no number to explain"));
     };
-    match meanings::explained(&word) {
+    match explained(&word) {
         Some(text) => Ok(Task::Print(text)),
         None => {
             let message = format!("{word:?} is no number of a refusal");
             Err(misused_by("explain", &message))
         }
     }
+}
+
+/// The line that explains a refusal's number, which is written in decimal; none where it is no
+/// such.
+fn explained(word: &OsStr) -> Option<String> {
+    let word = word.to_str()?;
+    let mut all = Refusal::ALL.iter();
+    let found = all.find(|refusal| refusal.number().to_string() == word)?;
+    let (number, name, meaning) = (found.number(), found.name(), found.meaning());
+    Some(format!("{number} {name}: {meaning}\n"))
 }
 
 /// What follows the first word. After "--" nothing is taken for an option.

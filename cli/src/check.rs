@@ -19,8 +19,8 @@ pub fn check(input: &mut Input, explain: bool) -> Result<Ending, Trouble> {
     let mut check = Check::of(n)
         .ok_or_else(|| Trouble::new(format!("no memory to check an input of {n} bytes")))?;
     let mut output = Output::with_room(ROOM);
-    if let Err(number) = check.run(input.bytes()) {
-        return end_refused(input, number, output);
+    if let Err(why) = check.run(input.bytes()) {
+        return end_refused(input, why, output);
     }
     for finding in findings(&check) {
         let word = foreseen(&finding)?.word;

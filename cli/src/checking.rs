@@ -1,7 +1,8 @@
 //! A stream checked for what its writer was advised against.
 
+use crate::ffi;
+use crate::refusal::{accepted, Refusal};
 use crate::reserved::Reserved;
-use crate::{accepted, ffi};
 
 /// Something that a writer was advised against: its kind, by its number, and its page, the first of
 /// the stream being 0.
@@ -29,8 +30,8 @@ impl Check {
         })
     }
 
-    /// Checks the stream; or gives the number of the refusal.
-    pub fn run(&mut self, stream: &[u8]) -> Result<(), u32> {
+    /// Checks the stream; or gives the refusal.
+    pub fn run(&mut self, stream: &[u8]) -> Result<(), Refusal> {
         let (kinds, pages) = (self.kinds.all_mut(), self.pages.all_mut());
         // SAFETY: each pointer goes with the length of its own slice, and `count` is the one place
         // that is written beside the lists; all but the stream are borrowed mutably, so they

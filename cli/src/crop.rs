@@ -8,7 +8,7 @@ use crate::output::Output;
 use crate::replaced::Replaced;
 use crate::trouble::{say, Trouble};
 use embulgri::cropping::{start_of, Crop, Start};
-use embulgri::NO_CROP_START;
+use embulgri::refusal::Refusal;
 use std::ffi::OsStr;
 
 /// More than one line takes.
@@ -24,10 +24,10 @@ pub fn crop(input: &mut Input, begin: &Begin, out: &OsStr) -> Result<Ending, Tro
             tell(input, &start);
             Ok(Ending::Done)
         }
-        Err(Stopped::Refused(NO_CROP_START)) => {
-            Output::with_room(ROOM).end_crop_refused(NO_CROP_START)
+        Err(Stopped::Refused(why @ Refusal::NoCropStart)) => {
+            Output::with_room(ROOM).end_crop_refused(why)
         }
-        Err(Stopped::Refused(number)) => end_refused(input, number, Output::with_room(ROOM)),
+        Err(Stopped::Refused(why)) => end_refused(input, why, Output::with_room(ROOM)),
         Err(Stopped::Trouble(trouble)) => Err(trouble),
     }
 }
@@ -48,7 +48,7 @@ fn cropped(stream: &[u8], begin: &Begin) -> Result<(Crop, Start), Stopped> {
             match start_of(stream, page, u64::MAX) {
                 Ok(start) if start.page == page => Ok((crop, start)),
                 Ok(_) => Err(Trouble::unforeseen("it begins the crop at another page").into()),
-                Err(number) => Err(Trouble::unforeseen(number).into()),
+                Err(why) => Err(Trouble::unforeseen(why).into()),
             }
         }
     }

@@ -1,7 +1,8 @@
 //! A stream cropped at a page.
 
+use crate::ffi;
+use crate::refusal::{accepted, Refusal};
 use crate::reserved::Reserved;
-use crate::{accepted, ffi};
 
 /// Where a crop begins: its page, the first of the stream being 0, and the position at which the
 /// first packet of that page starts.
@@ -11,8 +12,8 @@ pub struct Start {
 }
 
 /// The last page up to `last` at which a crop may begin and whose first packet starts at or before
-/// a position; or the number of the refusal.
-pub fn start_of(stream: &[u8], last: u64, position: u64) -> Result<Start, u32> {
+/// a position; or the refusal.
+pub fn start_of(stream: &[u8], last: u64, position: u64) -> Result<Start, Refusal> {
     let mut start = [0; 2];
     // SAFETY: the pointer and the length are those of one slice, and `start` has the two places
     // that are written.
@@ -44,8 +45,8 @@ impl Crop {
         })
     }
 
-    /// Crops the stream at a page; or gives the number of the refusal.
-    pub fn run(&mut self, stream: &[u8], page: u64) -> Result<(), u32> {
+    /// Crops the stream at a page; or gives the refusal.
+    pub fn run(&mut self, stream: &[u8], page: u64) -> Result<(), Refusal> {
         let out = self.out.all_mut();
         // SAFETY: each pointer goes with the length of its own slice, and `written` is the one
         // place that is written beside `out`; both are borrowed mutably, so they overlap nothing.

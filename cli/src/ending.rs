@@ -3,6 +3,7 @@
 use crate::input::Input;
 use crate::trouble::Trouble;
 use embulgri::reader::Reader;
+use embulgri::refusal::Refusal;
 
 /// How a task ends that met no trouble.
 pub enum Ending {
@@ -11,21 +12,20 @@ pub enum Ending {
     /// The stream is whole, and something was found in it that its writer was advised against; the
     /// lines that say so are printed.
     Advised,
-    /// This page, which starts at this byte of the input, was refused by this number; the line that
-    /// says so is printed.
-    Refused { number: u32, page: u64, at: u64 },
-    /// No page was refused, but the stream was by this number; the line that says so is printed.
-    StreamRefused { number: u32 },
-    /// No page was refused, but the crop was by this number; the line that says so is printed.
-    CropRefused { number: u32 },
-    /// The index was refused by this number, for the record at this place of it; the line that says
-    /// so is printed.
-    IndexRefused { number: u32, place: u64 },
+    /// This page, which starts at this byte of the input, was refused; the line that says so is
+    /// printed.
+    Refused { why: Refusal, page: u64, at: u64 },
+    /// No page was refused, but the stream was; the line that says so is printed.
+    StreamRefused { why: Refusal },
+    /// No page was refused, but the crop was; the line that says so is printed.
+    CropRefused { why: Refusal },
+    /// The index was refused, for the record at this place of it; the line that says so is printed.
+    IndexRefused { why: Refusal, place: u64 },
 }
 
-/// What stops feeding, building an index, or cropping, before the end: a refusal, by its number, or trouble.
+/// What stops feeding, building an index, or cropping, before the end: a refusal, or trouble.
 pub enum Stopped {
-    Refused(u32),
+    Refused(Refusal),
     Trouble(Trouble),
 }
 
@@ -42,7 +42,7 @@ pub fn feed_rest(input: &Input, reader: &mut Reader) -> Result<(), Stopped> {
         return Ok(());
     }
     match reader.feed(input.bytes()) {
-        Err(number) => Err(Stopped::Refused(number)),
+        Err(why) => Err(Stopped::Refused(why)),
         Ok(()) => Err(Trouble::unforeseen("it accepted what is no whole page").into()),
     }
 }

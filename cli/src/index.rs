@@ -4,8 +4,10 @@ use crate::ending::{Ending, Stopped};
 use crate::input::Input;
 use crate::output::Output;
 use crate::trouble::Trouble;
+use embulgri::lines;
+use embulgri::pages;
 use embulgri::records::{self, Index};
-use embulgri::{lines, pages};
+use embulgri::refusal::Refusal;
 
 /// What waits to be written at most.
 const ROOM: usize = 131_072;
@@ -22,7 +24,7 @@ pub fn index(input: &mut Input) -> Result<Ending, Trouble> {
             })?;
             output.write().map(|()| Ending::Done)
         }
-        Err(Stopped::Refused(number)) => end_refused(input, number, output),
+        Err(Stopped::Refused(why)) => end_refused(input, why, output),
         Err(Stopped::Trouble(trouble)) => Err(trouble),
     }
 }
@@ -33,7 +35,7 @@ pub fn index_of(input: &mut Input) -> Result<Index, Stopped> {
     let mut index = room_for(records::count_of(input.bytes()))?;
     match index.build(input.bytes()) {
         Ok(()) => Ok(index),
-        Err(number) => Err(Stopped::Refused(number)),
+        Err(why) => Err(Stopped::Refused(why)),
     }
 }
 
@@ -43,19 +45,19 @@ pub fn room_for(n: usize) -> Result<Index, Trouble> {
         .ok_or_else(|| Trouble::new(format!("no memory for {n} records of an index")))
 }
 
-/// Ends with the line of the refusal that an input has this number of. Where the input ends before
-/// its comment header is complete, no page is refused, and the line names none.
-pub fn end_refused(input: &mut Input, number: u32, mut output: Output) -> Result<Ending, Trouble> {
-    let judged = pages::judge(input.bytes());
-    if judged.number != number {
-        return Err(Trouble::unforeseen(number));
-    }
-    let Some(page) = judged.page else {
-        return output.end_stream_refused(number);
+/// Ends with the line of the refusal of an input. Where the input ends before its comment header is
+/// complete, no page is refused, and the line names none.
+pub fn end_refused(input: &mut Input, why: Refusal, mut output: Output) -> Result<Ending, Trouble> {
+    let page = match pages::judge(input.bytes()) {
+        Err(refused) if refused.why == why => refused.page,
+        _ => return Err(Trouble::unforeseen(why)),
+    };
+    let Some(page) = page else {
+        return output.end_stream_refused(why);
     };
     for _ in 0..page {
-        let end = pages::page_end(input.bytes()).ok_or_else(|| Trouble::unforeseen(number))?;
+        let end = pages::page_end(input.bytes()).ok_or_else(|| Trouble::unforeseen(why))?;
         input.take(end);
     }
-    output.end_refused(number, page, input.place())
+    output.end_refused(why, page, input.place())
 }

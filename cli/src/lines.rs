@@ -1,10 +1,11 @@
 //! The lines that are printed, put into lent memory. Each function that puts one line at a place
 //! gives the place after it, or the same place where the line does not fit.
 
+use crate::ffi;
 use crate::reader::Reader;
 use crate::records::{Index, Record};
+use crate::refusal::{accepted, Refusal};
 use crate::salvaging::Change;
-use crate::{accepted, ffi};
 use std::ops::Range;
 
 /// How many lines of packets or records were put, and the place after them.
@@ -27,9 +28,9 @@ pub fn put_total(reader: &Reader, out: &mut [u8], at: usize) -> usize {
     unsafe { ffi::embulgri_list_total(state, out.as_mut_ptr(), out.len(), at as u64) as usize }
 }
 
-/// The last line after a refusal of a page, by its number.
-pub fn put_refused(number: u32, page: u64, out: &mut [u8], at: usize) -> usize {
-    let number = u64::from(number);
+/// The last line after a refusal of a page.
+pub fn put_refused(why: Refusal, page: u64, out: &mut [u8], at: usize) -> usize {
+    let number = u64::from(why.number());
     // SAFETY: the pointer and the length are those of one slice.
     unsafe {
         ffi::embulgri_list_refused(number, page, out.as_mut_ptr(), out.len(), at as u64) as usize
@@ -68,8 +69,8 @@ pub fn put_entries(reader: &Reader, places: Range<usize>, out: &mut [u8], at: us
 }
 
 /// All lines of an identification header and a comment header, from the start of `out` on. Gives
-/// their length, or the number of the refusal.
-pub fn put_headers(head: &[u8], tags: &[u8], out: &mut [u8]) -> Result<usize, u32> {
+/// their length, or the refusal.
+pub fn put_headers(head: &[u8], tags: &[u8], out: &mut [u8]) -> Result<usize, Refusal> {
     let mut written = 0;
     // SAFETY: each pointer goes with the length of its own slice, and `written` is the one place
     // that is written beside `out`; both are borrowed mutably, so they overlap nothing.
@@ -89,11 +90,10 @@ pub fn put_headers(head: &[u8], tags: &[u8], out: &mut [u8]) -> Result<usize, u3
 }
 
 /// The line of a refusal that names no page.
-pub fn put_number_refused(number: u32, out: &mut [u8], at: usize) -> usize {
+pub fn put_stream_refused(why: Refusal, out: &mut [u8], at: usize) -> usize {
+    let number = u64::from(why.number());
     // SAFETY: the pointer and the length are those of one slice.
-    unsafe {
-        ffi::embulgri_index_refused(number.into(), out.as_mut_ptr(), out.len(), at as u64) as usize
-    }
+    unsafe { ffi::embulgri_index_refused(number, out.as_mut_ptr(), out.len(), at as u64) as usize }
 }
 
 /// The line above all records of an index.
@@ -158,9 +158,9 @@ pub fn put_begin(probes: u64, out: &mut [u8], at: usize) -> usize {
     unsafe { ffi::embulgri_seek_begin(probes, out.as_mut_ptr(), out.len(), at as u64) as usize }
 }
 
-/// The line of a refusal of an index, by its number, for the record at a place.
-pub fn put_index_refused(number: u32, place: u64, out: &mut [u8], at: usize) -> usize {
-    let number = u64::from(number);
+/// The line of a refusal of an index, for the record at a place.
+pub fn put_index_refused(why: Refusal, place: u64, out: &mut [u8], at: usize) -> usize {
+    let number = u64::from(why.number());
     // SAFETY: the pointer and the length are those of one slice.
     unsafe {
         ffi::embulgri_seek_refused(number, place, out.as_mut_ptr(), out.len(), at as u64) as usize

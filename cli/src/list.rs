@@ -33,7 +33,7 @@ pub fn list(input: &mut Input) -> Result<Ending, Trouble> {
                 .put(|out, at| lines::put_total(&l.reader, out, at))?;
             l.output.write().map(|()| Ending::Done)
         }
-        Err(Stopped::Refused(number)) => l.output.end_refused(number, l.pages, input.place()),
+        Err(Stopped::Refused(why)) => l.output.end_refused(why, l.pages, input.place()),
         Err(Stopped::Trouble(trouble)) => l.output.write().and(Err(trouble)),
     }
 }
@@ -50,7 +50,7 @@ impl Listing {
             })?;
             match fed.stop {
                 Stop::Full => {}
-                Stop::Refused(number) => return Err(Stopped::Refused(number)),
+                Stop::Refused(why) => return Err(Stopped::Refused(why)),
                 Stop::Cut if input.read_more()? => {}
                 Stop::Cut => return feed_rest(input, &mut self.reader),
             }

@@ -17,7 +17,6 @@ mod input;
 mod list;
 mod listing;
 mod mapping;
-mod meanings;
 mod numbers;
 mod output;
 mod progress;
@@ -112,23 +111,17 @@ fn follow(
     let progress = Progress::of(&input, shown);
     let ending = task(&mut input)?;
     drop(progress);
-    let (number, what) = match ending {
+    let (why, what) = match ending {
         Ending::Done => return Ok(0),
         Ending::Advised => return Ok(1),
-        Ending::StreamRefused { number } => (number, "the stream is".into()),
-        Ending::CropRefused { number } => (number, "the crop is".into()),
-        Ending::Refused { number, page, at } => (
-            number,
-            format!("page {page}, which starts at byte {at}, is"),
-        ),
-        Ending::IndexRefused { number, place } => {
-            (number, format!("the record at place {place} is"))
+        Ending::StreamRefused { why } => (why, "the stream is".into()),
+        Ending::CropRefused { why } => (why, "the crop is".into()),
+        Ending::Refused { why, page, at } => {
+            (why, format!("page {page}, which starts at byte {at}, is"))
         }
+        Ending::IndexRefused { why, place } => (why, format!("the record at place {place} is")),
     };
     let name = input.name();
-    let meaning = meanings::meaning_of(number);
-    say(format_args!(
-        "{name}: {what} refused by {number}: {meaning}"
-    ));
+    say(format_args!("{name}: {what} {why}"));
     Ok(2)
 }

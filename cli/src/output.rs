@@ -4,6 +4,7 @@ use crate::ending::Ending;
 use crate::terminal;
 use crate::trouble::Trouble;
 use embulgri::lines::{self, Put};
+use embulgri::refusal::Refusal;
 use std::fmt;
 use std::fs::File;
 use std::io::{IsTerminal, Write};
@@ -35,7 +36,10 @@ impl Output {
 
     /// Lets a function of the library fill all of its room, from the start. It gives the length, or
     /// a refusal that the library promises not to give.
-    pub fn fill(&mut self, put: impl Fn(&mut [u8]) -> Result<usize, u32>) -> Result<(), Trouble> {
+    pub fn fill(
+        &mut self,
+        put: impl Fn(&mut [u8]) -> Result<usize, Refusal>,
+    ) -> Result<(), Trouble> {
         self.filled = put(&mut self.room).map_err(Trouble::unforeseen)?;
         Ok(())
     }
@@ -75,30 +79,30 @@ impl Output {
     }
 
     /// Puts the line of a refusal of a page, and writes what waits.
-    pub fn end_refused(&mut self, number: u32, page: u64, at: u64) -> Result<Ending, Trouble> {
-        self.put(|out, place| lines::put_refused(number, page, out, place))?;
+    pub fn end_refused(&mut self, why: Refusal, page: u64, at: u64) -> Result<Ending, Trouble> {
+        self.put(|out, place| lines::put_refused(why, page, out, place))?;
         self.write()?;
-        Ok(Ending::Refused { number, page, at })
+        Ok(Ending::Refused { why, page, at })
     }
 
     /// Puts the line of a refusal of a whole stream, and writes what waits.
-    pub fn end_stream_refused(&mut self, number: u32) -> Result<Ending, Trouble> {
-        self.put(|out, at| lines::put_number_refused(number, out, at))?;
+    pub fn end_stream_refused(&mut self, why: Refusal) -> Result<Ending, Trouble> {
+        self.put(|out, at| lines::put_stream_refused(why, out, at))?;
         self.write()?;
-        Ok(Ending::StreamRefused { number })
+        Ok(Ending::StreamRefused { why })
     }
 
     /// Puts the line of a refusal of a crop, and writes what waits.
-    pub fn end_crop_refused(&mut self, number: u32) -> Result<Ending, Trouble> {
-        self.end_stream_refused(number)?;
-        Ok(Ending::CropRefused { number })
+    pub fn end_crop_refused(&mut self, why: Refusal) -> Result<Ending, Trouble> {
+        self.end_stream_refused(why)?;
+        Ok(Ending::CropRefused { why })
     }
 
     /// Puts the line of a refusal of an index, for the record at a place, and writes what waits.
-    pub fn end_index_refused(&mut self, number: u32, place: u64) -> Result<Ending, Trouble> {
-        self.put(|out, at| lines::put_index_refused(number, place, out, at))?;
+    pub fn end_index_refused(&mut self, why: Refusal, place: u64) -> Result<Ending, Trouble> {
+        self.put(|out, at| lines::put_index_refused(why, place, out, at))?;
         self.write()?;
-        Ok(Ending::IndexRefused { number, place })
+        Ok(Ending::IndexRefused { why, place })
     }
 
     /// Writes what waits.

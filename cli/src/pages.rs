@@ -1,6 +1,7 @@
 //! Pages where they lie in a buffer.
 
-use crate::{accepted, ffi, HEADERS_INCOMPLETE};
+use crate::ffi;
+use crate::refusal::{accepted, Refusal};
 use std::ops::Range;
 
 /// The place after the page that the bytes begin with; none where it is not whole in them. Bytes
@@ -11,8 +12,8 @@ pub fn page_end(bytes: &[u8]) -> Option<usize> {
     (end != 0).then_some(end as usize)
 }
 
-/// The numbers that the library reads of one whole page; or the number of the refusal.
-fn fields_of(page: &[u8]) -> Result<[u64; 6], u32> {
+/// The numbers that the library reads of one whole page; or the refusal.
+fn fields_of(page: &[u8]) -> Result<[u64; 6], Refusal> {
     let mut fields = [0; 6];
     // SAFETY: the pointer and the length are those of one slice; `fields` has the six places that
     // are written.
@@ -20,35 +21,34 @@ fn fields_of(page: &[u8]) -> Result<[u64; 6], u32> {
     accepted(number).map(|()| fields)
 }
 
-/// Where the body of one whole page lies in it; or the number of the refusal.
-pub fn body_of(page: &[u8]) -> Result<Range<usize>, u32> {
+/// Where the body of one whole page lies in it; or the refusal.
+pub fn body_of(page: &[u8]) -> Result<Range<usize>, Refusal> {
     let fields = fields_of(page)?;
     let start = 27 + fields[4] as usize;
     Ok(start..start + fields[5] as usize)
 }
 
-/// The granule position and the sequence number of one whole page; or the number of the refusal.
-pub fn position_of(page: &[u8]) -> Result<(u64, u32), u32> {
+/// The granule position and the sequence number of one whole page; or the refusal.
+pub fn position_of(page: &[u8]) -> Result<(u64, u32), Refusal> {
     let fields = fields_of(page)?;
     Ok((fields[1], fields[3] as u32))
 }
 
-/// The judgement of a stream: the number of its refusal, 0 where it is whole, and the page that is
-/// refused, which no page is under 0 and 24.
-pub struct Judged {
-    pub number: u32,
+/// Why a stream is not whole, and the page that is refused; none is where the stream ends before its
+/// comment header is complete.
+pub struct Refused {
+    pub why: Refusal,
     pub page: Option<u64>,
 }
 
 /// Judges the stream that the bytes are.
-pub fn judge(stream: &[u8]) -> Judged {
+pub fn judge(stream: &[u8]) -> Result<(), Refused> {
     let mut page = 0;
     // SAFETY: the pointer and the length are those of one slice, and `page` is the one place that
     // is written.
     let number = unsafe { ffi::embulgri_judge(stream.as_ptr(), stream.len(), &mut page) };
-    let refused = !matches!(number, 0 | HEADERS_INCOMPLETE);
-    Judged {
-        number,
-        page: refused.then_some(page),
-    }
+    accepted(number).map_err(|why| Refused {
+        why,
+        page: (why != Refusal::HeadersIncomplete).then_some(page),
+    })
 }

@@ -1,6 +1,7 @@
 //! A reader of one stream, with the memory that is lent to it.
 
-use crate::{accepted, ffi, PACKET_MAX, PLACES};
+use crate::refusal::{accepted, Refusal};
+use crate::{ffi, PACKET_MAX, PLACES};
 
 /// Follows a stream page by page. What it tells of packets is in its lists until it is fed again.
 pub struct Reader {
@@ -18,8 +19,8 @@ pub enum Stop {
     Cut,
     /// The lists have no room for another page.
     Full,
-    /// The next page is refused by this number.
-    Refused(u32),
+    /// The next page is refused.
+    Refused(Refusal),
 }
 
 /// How far feeding the pages of a buffer came: the bytes and the number of the pages accepted, the
@@ -67,8 +68,8 @@ impl Reader {
         &self.carry[..n.min(self.carry.len())]
     }
 
-    /// Feeds one page, or bytes that are none; or gives the number of the refusal.
-    pub fn feed(&mut self, page: &[u8]) -> Result<(), u32> {
+    /// Feeds one page, or bytes that are none; or gives the refusal.
+    pub fn feed(&mut self, page: &[u8]) -> Result<(), Refusal> {
         let mut counts = [0; 6];
         // SAFETY: each pointer goes with the length of its own slice, and `state` and `counts` have
         // the places that are written; all but the page are borrowed mutably, so they overlap
@@ -122,16 +123,16 @@ impl Reader {
             bytes: out[0] as usize,
             pages: out[1],
             packets: out[2] as usize,
-            stop: stop_of(out[3], number),
+            stop: stop_of(out[3], accepted(number)),
         }
     }
 }
 
-/// Why it stopped, by the number that says so and that of the refusal.
-fn stop_of(why: u64, number: u32) -> Stop {
-    match why {
-        0 => Stop::Cut,
-        1 => Stop::Full,
-        _ => Stop::Refused(number),
+/// Why it stopped: a refusal, or what the number that is told beside it says.
+fn stop_of(number: u64, accepted: Result<(), Refusal>) -> Stop {
+    match (accepted, number) {
+        (Err(why), _) => Stop::Refused(why),
+        (Ok(()), 0) => Stop::Cut,
+        (Ok(()), _) => Stop::Full,
     }
 }

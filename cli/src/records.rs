@@ -1,6 +1,7 @@
 //! An index of a stream, in three lists, and the search in it.
 
-use crate::{accepted, ffi};
+use crate::ffi;
+use crate::refusal::{accepted, Refusal};
 
 /// A page where an audio packet completes: its granule position, the place of its first byte in the
 /// stream, and its sequence number.
@@ -23,8 +24,8 @@ pub enum Sought {
     Record { number: usize, probes: u64 },
     /// No record is early enough.
     Begin { probes: u64 },
-    /// The index is refused by this number, for the record at this place.
-    Refused { number: u32, place: u64 },
+    /// The index is refused, for the record at this place.
+    Refused { why: Refusal, place: u64 },
 }
 
 /// How many records the index of a stream has.
@@ -64,8 +65,8 @@ impl Index {
         self.sequences[i] = record.sequence;
     }
 
-    /// Becomes the index of a stream, which has no more records; or the number of the refusal.
-    pub fn build(&mut self, stream: &[u8]) -> Result<(), u32> {
+    /// Becomes the index of a stream, which has no more records; or gives the refusal.
+    pub fn build(&mut self, stream: &[u8]) -> Result<(), Refusal> {
         let mut count = 0;
         // SAFETY: each pointer goes with the length of its own slice, and `count` is the one place
         // that is written beside the lists; all but the stream are borrowed mutably, so they
@@ -110,13 +111,13 @@ impl Index {
             )
         };
         let [found, record, probes] = out;
-        match (number, found) {
-            (0, 0) => Sought::Begin { probes },
-            (0, _) => Sought::Record {
+        match (accepted(number), found) {
+            (Ok(()), 0) => Sought::Begin { probes },
+            (Ok(()), _) => Sought::Record {
                 number: record as usize,
                 probes,
             },
-            _ => Sought::Refused { number, place },
+            (Err(why), _) => Sought::Refused { why, place },
         }
     }
 }

@@ -8,8 +8,8 @@ use crate::trouble::{say, Trouble};
 use embulgri::lines;
 use embulgri::pages;
 use embulgri::reader::{Reader, Stop};
+use embulgri::refusal::Refusal;
 use embulgri::salvaging::{Change, Salvage};
-use embulgri::HEADERS_INCOMPLETE;
 use std::ffi::OsStr;
 
 /// What waits to be written at most.
@@ -29,8 +29,8 @@ pub fn salvage(input: &mut Input, out: &OsStr) -> Result<Ending, Trouble> {
     let mut output = Output::with_room(ROOM);
     match salvage.run(input.bytes()) {
         Ok(()) => {}
-        Err(HEADERS_INCOMPLETE) => return output.end_stream_refused(HEADERS_INCOMPLETE),
-        Err(number) => return Err(Trouble::unforeseen(number)),
+        Err(why @ Refusal::HeadersIncomplete) => return output.end_stream_refused(why),
+        Err(why) => return Err(Trouble::unforeseen(why)),
     }
     let told = told_of(salvage.stream())?;
     Replaced::write(out, salvage.stream())?;
@@ -124,7 +124,7 @@ fn told_of(stream: &[u8]) -> Result<(u64, u64), Trouble> {
             Stop::Full => {}
             Stop::Cut if at == stream.len() => return Ok((pages, reader.hole())),
             Stop::Cut => return Err(Trouble::unforeseen("it saved what is no whole page")),
-            Stop::Refused(number) => return Err(Trouble::unforeseen(number)),
+            Stop::Refused(why) => return Err(Trouble::unforeseen(why)),
         }
     }
 }

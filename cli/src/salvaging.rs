@@ -1,7 +1,8 @@
 //! Salvage of a stream from damaged bytes.
 
+use crate::ffi;
+use crate::refusal::{accepted, Refusal};
 use crate::reserved::Reserved;
-use crate::{accepted, ffi};
 
 /// What salvage skipped or changed: what it tells, by its number, a place of the input, and bytes.
 pub struct Change {
@@ -34,8 +35,8 @@ impl Salvage {
         })
     }
 
-    /// Salvages the input; or gives the number of the refusal.
-    pub fn run(&mut self, input: &[u8]) -> Result<(), u32> {
+    /// Salvages the input; or gives the refusal.
+    pub fn run(&mut self, input: &[u8]) -> Result<(), Refusal> {
         let (work, out) = (self.work.all_mut(), self.out.all_mut());
         let (what, places) = (self.what.all_mut(), self.places.all_mut());
         let sizes = self.sizes.all_mut();

@@ -16,7 +16,7 @@ const ROOM: usize = 1_024;
 pub fn seek(input: &mut Input, position: u64) -> Result<Ending, Trouble> {
     match index_of(input) {
         Ok(index) => tell(&index, index.seek(position)),
-        Err(Stopped::Refused(number)) => end_refused(input, number, Output::with_room(ROOM)),
+        Err(Stopped::Refused(why)) => end_refused(input, why, Output::with_room(ROOM)),
         Err(Stopped::Trouble(trouble)) => Err(trouble),
     }
 }
@@ -77,7 +77,7 @@ fn tell(index: &Index, sought: Sought) -> Result<Ending, Trouble> {
             output.put(|out, at| lines::put_found(&record, probes, out, at))?;
         }
         Sought::Begin { probes } => output.put(|out, at| lines::put_begin(probes, out, at))?,
-        Sought::Refused { number, place } => return output.end_index_refused(number, place),
+        Sought::Refused { why, place } => return output.end_index_refused(why, place),
     }
     output.write().map(|()| Ending::Done)
 }

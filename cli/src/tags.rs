@@ -31,7 +31,7 @@ pub fn tags(input: &mut Input) -> Result<Ending, Trouble> {
             output.fill(|out| lines::put_headers(&h.head, tags, out))?;
             output.write().map(|()| Ending::Done)
         }
-        Err(Stopped::Refused(number)) => output.end_refused(number, h.pages, input.place()),
+        Err(Stopped::Refused(why)) => output.end_refused(why, h.pages, input.place()),
         Err(Stopped::Trouble(trouble)) => Err(trouble),
     }
 }
@@ -60,7 +60,7 @@ impl Headers {
         self.reader.feed(page).map_err(Stopped::Refused)?;
         let body = match pages::body_of(page) {
             Ok(place) => &page[place],
-            Err(number) => return Err(Trouble::unforeseen(number).into()),
+            Err(why) => return Err(Trouble::unforeseen(why).into()),
         };
         if self.pages == 0 {
             self.head = body.to_vec();
