@@ -1,4 +1,17 @@
 //! A stream checked for what its writer was advised against.
+//!
+//! ```
+//! use embulgri::checking::Check;
+//!
+//! let stream = std::fs::read("../examples/drip.opus")?;
+//! let mut check = Check::of(stream.len()).expect("memory");
+//! assert_eq!(check.run(&stream), Ok(()));
+//! assert_eq!(check.count(), 0);
+//!
+//! assert_eq!(check.run(&stream[..8_330]), Ok(()), "the first five pages");
+//! assert_eq!((check.finding(0).kind, check.finding(0).page), (2, 4), "no end mark");
+//! # Ok::<(), std::io::Error>(())
+//! ```
 
 use crate::ffi;
 use crate::refusal::{accepted, Refusal};

@@ -1,4 +1,19 @@
 //! A stream cropped at a page.
+//!
+//! ```
+//! use embulgri::cropping::{start_of, Crop};
+//! use embulgri::refusal::Refusal;
+//!
+//! let stream = std::fs::read("../examples/drip.opus")?;
+//! let start = start_of(&stream, u64::MAX, 200_000).expect("a page that is early enough");
+//! assert_eq!((start.page, start.position), (6, 192_000));
+//!
+//! let mut crop = Crop::of(stream.len()).expect("memory");
+//! assert_eq!(crop.run(&stream, start.page), Ok(()));
+//! assert!(crop.stream().len() < stream.len());
+//! assert_eq!(crop.run(&stream, 0), Err(Refusal::NoCropStart));
+//! # Ok::<(), std::io::Error>(())
+//! ```
 
 use crate::ffi;
 use crate::refusal::{accepted, Refusal};

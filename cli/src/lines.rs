@@ -1,5 +1,22 @@
 //! The lines that are printed, put into lent memory. Each function that puts one line at a place
 //! gives the place after it, or the same place where the line does not fit.
+//!
+//! ```
+//! use embulgri::lines::{put_entries, put_first, put_total};
+//! use embulgri::reader::Reader;
+//!
+//! let stream = std::fs::read("../examples/drip.opus")?;
+//! let mut reader = Reader::start();
+//! let packets = reader.feed_pages(&stream).packets;
+//! let mut out = [0; 10_000];
+//! let at = put_first(&mut out, 0);
+//! let put = put_entries(&reader, 0..packets, &mut out, at);
+//! let end = put_total(&reader, &mut out, put.at);
+//! let listing = std::fs::read("../examples/drip.lines")?;
+//! assert_eq!(put.count, packets);
+//! assert_eq!(out[..end], listing);
+//! # Ok::<(), std::io::Error>(())
+//! ```
 
 use crate::ffi;
 use crate::reader::Reader;

@@ -1,4 +1,20 @@
 //! Pages where they lie in a buffer.
+//!
+//! ```
+//! use embulgri::pages::{body_of, judge, page_end, position_of};
+//! use embulgri::refusal::Refusal;
+//!
+//! let stream = std::fs::read("../examples/drip.opus")?;
+//! let first = page_end(&stream).expect("a whole page");
+//! assert!(stream[body_of(&stream[..first]).unwrap()].starts_with(b"OpusHead"));
+//! assert_eq!(position_of(&stream[..first]), Ok((0, 0)));
+//! assert_eq!(position_of(&stream[..first - 1]), Err(Refusal::NotOnePage));
+//!
+//! assert!(judge(&stream).is_ok());
+//! let refused = judge(&stream[..stream.len() - 1]).unwrap_err();
+//! assert_eq!((refused.why, refused.page), (Refusal::NotOnePage, Some(8)));
+//! # Ok::<(), std::io::Error>(())
+//! ```
 
 use crate::ffi;
 use crate::refusal::{accepted, Refusal};
@@ -36,6 +52,7 @@ pub fn position_of(page: &[u8]) -> Result<(u64, u32), Refusal> {
 
 /// Why a stream is not whole, and the page that is refused; none is where the stream ends before its
 /// comment header is complete.
+#[derive(Debug)]
 pub struct Refused {
     pub why: Refusal,
     pub page: Option<u64>,

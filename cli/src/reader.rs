@@ -1,4 +1,22 @@
 //! A reader of one stream, with the memory that is lent to it.
+//!
+//! ```
+//! use embulgri::pages::page_end;
+//! use embulgri::reader::Reader;
+//! use embulgri::refusal::Refusal;
+//!
+//! let stream = std::fs::read("../examples/drip.opus")?;
+//! let mut reader = Reader::start();
+//! let mut rest = &stream[..];
+//! while let Some(end) = page_end(rest) {
+//!     reader.feed(&rest[..end]).expect("a page of a whole stream");
+//!     rest = &rest[end..];
+//! }
+//! let totals = reader.totals();
+//! assert_eq!((totals.kept, totals.skipped, totals.trimmed), (288_000, 312, 648));
+//! assert_eq!(reader.feed(&stream[..47]), Err(Refusal::AfterEnd));
+//! # Ok::<(), std::io::Error>(())
+//! ```
 
 use crate::refusal::{accepted, Refusal};
 use crate::{ffi, PACKET_MAX, PLACES};
@@ -11,6 +29,26 @@ pub struct Reader {
     pub(crate) lengths: Vec<u64>,
     pub(crate) kept: Vec<u64>,
     pub(crate) frames: Vec<u64>,
+}
+
+/// What is told of a packet, in samples: the position of its last one, its length, and how many of
+/// these are kept; and the number of its frames.
+#[derive(Clone, Copy, Debug, PartialEq, Eq)]
+pub struct Packet {
+    pub end: u64,
+    pub length: u64,
+    pub kept: u64,
+    pub frames: u64,
+}
+
+/// The samples of all accepted pages that are kept, skipped at the start and trimmed at the end, and
+/// those of the holes.
+#[derive(Clone, Copy, Debug, PartialEq, Eq)]
+pub struct Totals {
+    pub kept: u64,
+    pub skipped: u64,
+    pub trimmed: u64,
+    pub hole: u64,
 }
 
 /// Why feeding the pages of a buffer stopped.
@@ -58,9 +96,25 @@ impl Reader {
         self.state[2] as usize
     }
 
-    /// The samples of the holes in the stream so far.
-    pub fn hole(&self) -> u64 {
-        self.state[13]
+    /// The totals of the stream so far.
+    pub fn totals(&self) -> Totals {
+        Totals {
+            kept: self.state[10],
+            skipped: self.state[11],
+            trimmed: self.state[12],
+            hole: self.state[13],
+        }
+    }
+
+    /// The packet in this place of the lists, the first being 0. Only places below the number of
+    /// packets that feeding told have one of the last feeding.
+    pub fn packet(&self, place: usize) -> Packet {
+        Packet {
+            end: self.ends[place],
+            length: self.lengths[place],
+            kept: self.kept[place],
+            frames: self.frames[place],
+        }
     }
 
     /// The first n bytes of the carry buffer: the comment header, on the page that completes it.

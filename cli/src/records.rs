@@ -1,4 +1,21 @@
 //! An index of a stream, in three lists, and the search in it.
+//!
+//! ```
+//! use embulgri::records::{count_of, Index, Sought};
+//!
+//! let stream = std::fs::read("../examples/drip.opus")?;
+//! let mut index = Index::with_room(count_of(&stream)).expect("memory");
+//! index.build(&stream).expect("a whole stream");
+//! assert_eq!(index.count(), 7);
+//!
+//! let Sought::Record { number, probes } = index.seek(240_000) else {
+//!     panic!("the stream begins before that");
+//! };
+//! let record = index.record(number);
+//! assert_eq!((record.granule, record.place, record.sequence), (192_000, 8_330, 5));
+//! assert_eq!(probes, 3);
+//! # Ok::<(), std::io::Error>(())
+//! ```
 
 use crate::ffi;
 use crate::refusal::{accepted, Refusal};

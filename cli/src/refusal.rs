@@ -1,4 +1,14 @@
 //! Refusals: why the library does not answer (docs/RULES.md, 2).
+//!
+//! ```
+//! use embulgri::refusal::Refusal;
+//!
+//! let why = Refusal::of(4).expect("a refusal's number");
+//! assert_eq!(why, Refusal::WrongChecksum);
+//! assert_eq!((why.number(), why.name()), (4, "WrongChecksum"));
+//! assert!(why.to_string().starts_with("refused by 4: the checksum in the page"));
+//! assert_eq!(Refusal::of(25), None);
+//! ```
 
 use std::error::Error;
 use std::fmt;

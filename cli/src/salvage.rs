@@ -122,7 +122,7 @@ fn told_of(stream: &[u8]) -> Result<(u64, u64), Trouble> {
         pages += fed.pages;
         match fed.stop {
             Stop::Full => {}
-            Stop::Cut if at == stream.len() => return Ok((pages, reader.hole())),
+            Stop::Cut if at == stream.len() => return Ok((pages, reader.totals().hole)),
             Stop::Cut => return Err(Trouble::unforeseen("it saved what is no whole page")),
             Stop::Refused(why) => return Err(Trouble::unforeseen(why)),
         }

@@ -1,4 +1,20 @@
 //! Salvage of a stream from damaged bytes.
+//!
+//! ```
+//! use embulgri::pages::judge;
+//! use embulgri::salvaging::Salvage;
+//!
+//! let mut damaged = std::fs::read("../examples/drip.opus")?;
+//! damaged.drain(5_000..5_100);
+//! assert!(judge(&damaged).is_err());
+//!
+//! let mut salvage = Salvage::of(damaged.len()).expect("memory");
+//! assert_eq!(salvage.run(&damaged), Ok(()));
+//! assert!(judge(salvage.stream()).is_ok());
+//! let skipped = salvage.change(0);
+//! assert_eq!((skipped.what, skipped.place, skipped.bytes), (0, 3_281, 2_400));
+//! # Ok::<(), std::io::Error>(())
+//! ```
 
 use crate::ffi;
 use crate::refusal::{accepted, Refusal};
