@@ -46,20 +46,7 @@ impl Check {
     /// Checks the stream; or gives the refusal.
     pub fn run(&mut self, stream: &[u8]) -> Result<(), Refusal> {
         let (kinds, pages) = (self.kinds.all_mut(), self.pages.all_mut());
-        // SAFETY: each pointer goes with the length of its own slice, and `count` is the one place
-        // that is written beside the lists; all but the stream are borrowed mutably, so they
-        // overlap nothing.
-        let number = unsafe {
-            ffi::embulgri_check(
-                stream.as_ptr(),
-                stream.len(),
-                kinds.as_mut_ptr(),
-                kinds.len(),
-                pages.as_mut_ptr(),
-                pages.len(),
-                &mut self.count,
-            )
-        };
+        let number = ffi::check(stream, kinds, pages, &mut self.count);
         accepted(number)
     }
 

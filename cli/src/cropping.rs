@@ -30,17 +30,7 @@ pub struct Start {
 /// a position; or the refusal.
 pub fn start_of(stream: &[u8], last: u64, position: u64) -> Result<Start, Refusal> {
     let mut start = [0; 2];
-    // SAFETY: the pointer and the length are those of one slice, and `start` has the two places
-    // that are written.
-    let number = unsafe {
-        ffi::embulgri_crop_start(
-            stream.as_ptr(),
-            stream.len(),
-            last,
-            position,
-            start.as_mut_ptr(),
-        )
-    };
+    let number = ffi::crop_start(stream, last, position, &mut start);
     let [page, position] = start;
     accepted(number).map(|()| Start { page, position })
 }
@@ -63,18 +53,7 @@ impl Crop {
     /// Crops the stream at a page; or gives the refusal.
     pub fn run(&mut self, stream: &[u8], page: u64) -> Result<(), Refusal> {
         let out = self.out.all_mut();
-        // SAFETY: each pointer goes with the length of its own slice, and `written` is the one
-        // place that is written beside `out`; both are borrowed mutably, so they overlap nothing.
-        let number = unsafe {
-            ffi::embulgri_crop(
-                stream.as_ptr(),
-                stream.len(),
-                page,
-                out.as_mut_ptr(),
-                out.len(),
-                &mut self.written,
-            )
-        };
+        let number = ffi::crop(stream, page, out, &mut self.written);
         accepted(number)
     }
 

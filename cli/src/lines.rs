@@ -18,7 +18,7 @@
 //! # Ok::<(), std::io::Error>(())
 //! ```
 
-use crate::ffi;
+use crate::ffi::lines as ffi;
 use crate::reader::Reader;
 use crate::records::{Index, Record};
 use crate::refusal::{accepted, Refusal};
@@ -33,25 +33,18 @@ pub struct Put {
 
 /// The line above all packets.
 pub fn put_first(out: &mut [u8], at: usize) -> usize {
-    // SAFETY: the pointer and the length are those of one slice.
-    unsafe { ffi::embulgri_list_first(out.as_mut_ptr(), out.len(), at as u64) as usize }
+    ffi::list_first(out, at as u64) as usize
 }
 
 /// The last line of a listing that was not refused: the totals of its reader.
 pub fn put_total(reader: &Reader, out: &mut [u8], at: usize) -> usize {
-    let state = reader.state.as_ptr();
-    // SAFETY: `state` has the sixteen places that are read; the other pointer and the length are
-    // those of one slice, which is borrowed mutably and so overlaps nothing.
-    unsafe { ffi::embulgri_list_total(state, out.as_mut_ptr(), out.len(), at as u64) as usize }
+    ffi::list_total(&reader.state, out, at as u64) as usize
 }
 
 /// The last line after a refusal of a page.
 pub fn put_refused(why: Refusal, page: u64, out: &mut [u8], at: usize) -> usize {
     let number = u64::from(why.number());
-    // SAFETY: the pointer and the length are those of one slice.
-    unsafe {
-        ffi::embulgri_list_refused(number, page, out.as_mut_ptr(), out.len(), at as u64) as usize
-    }
+    ffi::list_refused(number, page, out, at as u64) as usize
 }
 
 /// The lines of the packets in these places of a reader's lists, as many as surely fit.
@@ -61,24 +54,7 @@ pub fn put_entries(reader: &Reader, places: Range<usize>, out: &mut [u8], at: us
     let frames = &reader.frames[places.clone()];
     let kept = &reader.kept[places];
     let mut put = [0; 2];
-    // SAFETY: each pointer goes with the length of its own slice, and `put` has the two places that
-    // are written; `out` and `put` are borrowed mutably, so they overlap nothing.
-    unsafe {
-        ffi::embulgri_list_entries(
-            ends.as_ptr(),
-            ends.len(),
-            lengths.as_ptr(),
-            lengths.len(),
-            frames.as_ptr(),
-            frames.len(),
-            kept.as_ptr(),
-            kept.len(),
-            out.as_mut_ptr(),
-            out.len(),
-            at as u64,
-            put.as_mut_ptr(),
-        );
-    }
+    ffi::list_entries(ends, lengths, frames, kept, out, at as u64, &mut put);
     Put {
         count: put[0] as usize,
         at: put[1] as usize,
@@ -89,19 +65,7 @@ pub fn put_entries(reader: &Reader, places: Range<usize>, out: &mut [u8], at: us
 /// their length, or the refusal.
 pub fn put_headers(head: &[u8], tags: &[u8], out: &mut [u8]) -> Result<usize, Refusal> {
     let mut written = 0;
-    // SAFETY: each pointer goes with the length of its own slice, and `written` is the one place
-    // that is written beside `out`; both are borrowed mutably, so they overlap nothing.
-    let number = unsafe {
-        ffi::embulgri_header_lines(
-            head.as_ptr(),
-            head.len(),
-            tags.as_ptr(),
-            tags.len(),
-            out.as_mut_ptr(),
-            out.len(),
-            &mut written,
-        )
-    };
+    let number = ffi::header_lines(head, tags, out, &mut written);
     accepted(number)?;
     Ok(written as usize)
 }
@@ -109,14 +73,12 @@ pub fn put_headers(head: &[u8], tags: &[u8], out: &mut [u8]) -> Result<usize, Re
 /// The line of a refusal that names no page.
 pub fn put_stream_refused(why: Refusal, out: &mut [u8], at: usize) -> usize {
     let number = u64::from(why.number());
-    // SAFETY: the pointer and the length are those of one slice.
-    unsafe { ffi::embulgri_index_refused(number, out.as_mut_ptr(), out.len(), at as u64) as usize }
+    ffi::index_refused(number, out, at as u64) as usize
 }
 
 /// The line above all records of an index.
 pub fn put_index_first(out: &mut [u8], at: usize) -> usize {
-    // SAFETY: the pointer and the length are those of one slice.
-    unsafe { ffi::embulgri_index_first(out.as_mut_ptr(), out.len(), at as u64) as usize }
+    ffi::index_first(out, at as u64) as usize
 }
 
 /// The lines of the records with these numbers, as many as surely fit.
@@ -125,22 +87,7 @@ pub fn put_records(index: &Index, numbers: Range<usize>, out: &mut [u8], at: usi
     let places = &index.places[numbers.clone()];
     let sequences = &index.sequences[numbers];
     let mut put = [0; 2];
-    // SAFETY: each pointer goes with the length of its own slice, and `put` has the two places that
-    // are written; `out` and `put` are borrowed mutably, so they overlap nothing.
-    unsafe {
-        ffi::embulgri_index_records(
-            granules.as_ptr(),
-            granules.len(),
-            places.as_ptr(),
-            places.len(),
-            sequences.as_ptr(),
-            sequences.len(),
-            out.as_mut_ptr(),
-            out.len(),
-            at as u64,
-            put.as_mut_ptr(),
-        );
-    }
+    ffi::index_records(granules, places, sequences, out, at as u64, &mut put);
     Put {
         count: put[0] as usize,
         at: put[1] as usize,
@@ -149,52 +96,33 @@ pub fn put_records(index: &Index, numbers: Range<usize>, out: &mut [u8], at: usi
 
 /// The line above what a search found.
 pub fn put_seek_first(out: &mut [u8], at: usize) -> usize {
-    // SAFETY: the pointer and the length are those of one slice.
-    unsafe { ffi::embulgri_seek_first(out.as_mut_ptr(), out.len(), at as u64) as usize }
+    ffi::seek_first(out, at as u64) as usize
 }
 
 /// The record that a search found, after so many probes.
 pub fn put_found(record: &Record, probes: u64, out: &mut [u8], at: usize) -> usize {
-    // SAFETY: the pointer and the length are those of one slice.
-    unsafe {
-        ffi::embulgri_seek_found(
-            record.granule,
-            record.place,
-            record.sequence,
-            probes,
-            out.as_mut_ptr(),
-            out.len(),
-            at as u64,
-        ) as usize
-    }
+    ffi::seek_found(
+        record.granule,
+        record.place,
+        record.sequence,
+        probes,
+        out,
+        at as u64,
+    ) as usize
 }
 
 /// The line of a search that found no record early enough, after so many probes.
 pub fn put_begin(probes: u64, out: &mut [u8], at: usize) -> usize {
-    // SAFETY: the pointer and the length are those of one slice.
-    unsafe { ffi::embulgri_seek_begin(probes, out.as_mut_ptr(), out.len(), at as u64) as usize }
+    ffi::seek_begin(probes, out, at as u64) as usize
 }
 
 /// The line of a refusal of an index, for the record at a place.
 pub fn put_index_refused(why: Refusal, place: u64, out: &mut [u8], at: usize) -> usize {
     let number = u64::from(why.number());
-    // SAFETY: the pointer and the length are those of one slice.
-    unsafe {
-        ffi::embulgri_seek_refused(number, place, out.as_mut_ptr(), out.len(), at as u64) as usize
-    }
+    ffi::seek_refused(number, place, out, at as u64) as usize
 }
 
 /// The line of something that salvage skipped or changed.
 pub fn put_change(change: &Change, out: &mut [u8], at: usize) -> usize {
-    // SAFETY: the pointer and the length are those of one slice.
-    unsafe {
-        ffi::embulgri_salvage_line(
-            change.what,
-            change.place,
-            change.bytes,
-            out.as_mut_ptr(),
-            out.len(),
-            at as u64,
-        ) as usize
-    }
+    ffi::salvage_line(change.what, change.place, change.bytes, out, at as u64) as usize
 }

@@ -23,17 +23,14 @@ use std::ops::Range;
 /// The place after the page that the bytes begin with; none where it is not whole in them. Bytes
 /// that begin no page are taken to their end.
 pub fn page_end(bytes: &[u8]) -> Option<usize> {
-    // SAFETY: the pointer and the length are those of one slice.
-    let end = unsafe { ffi::embulgri_page_end(bytes.as_ptr(), bytes.len(), 0) };
+    let end = ffi::page_end(bytes, 0);
     (end != 0).then_some(end as usize)
 }
 
 /// The numbers that the library reads of one whole page; or the refusal.
 fn fields_of(page: &[u8]) -> Result<[u64; 6], Refusal> {
     let mut fields = [0; 6];
-    // SAFETY: the pointer and the length are those of one slice; `fields` has the six places that
-    // are written.
-    let number = unsafe { ffi::embulgri_page_read(page.as_ptr(), page.len(), fields.as_mut_ptr()) };
+    let number = ffi::page_read(page, &mut fields);
     accepted(number).map(|()| fields)
 }
 
@@ -61,9 +58,7 @@ pub struct Refused {
 /// Judges the stream that the bytes are.
 pub fn judge(stream: &[u8]) -> Result<(), Refused> {
     let mut page = 0;
-    // SAFETY: the pointer and the length are those of one slice, and `page` is the one place that
-    // is written.
-    let number = unsafe { ffi::embulgri_judge(stream.as_ptr(), stream.len(), &mut page) };
+    let number = ffi::judge(stream, &mut page);
     accepted(number).map_err(|why| Refused {
         why,
         page: (why != Refusal::HeadersIncomplete).then_some(page),

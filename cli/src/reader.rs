@@ -74,8 +74,7 @@ impl Reader {
     /// A reader that waits for the first page of a stream.
     pub fn start() -> Reader {
         let mut state = [0; 16];
-        // SAFETY: `state` has the sixteen places that are written.
-        unsafe { ffi::embulgri_start(state.as_mut_ptr()) };
+        ffi::start(&mut state);
         Reader {
             state,
             carry: vec![0; PACKET_MAX],
@@ -125,54 +124,32 @@ impl Reader {
     /// Feeds one page, or bytes that are none; or gives the refusal.
     pub fn feed(&mut self, page: &[u8]) -> Result<(), Refusal> {
         let mut counts = [0; 6];
-        // SAFETY: each pointer goes with the length of its own slice, and `state` and `counts` have
-        // the places that are written; all but the page are borrowed mutably, so they overlap
-        // nothing.
-        let number = unsafe {
-            ffi::embulgri_feed(
-                self.state.as_mut_ptr(),
-                page.as_ptr(),
-                page.len(),
-                self.carry.as_mut_ptr(),
-                self.carry.len(),
-                self.ends.as_mut_ptr(),
-                self.ends.len(),
-                self.lengths.as_mut_ptr(),
-                self.lengths.len(),
-                self.kept.as_mut_ptr(),
-                self.kept.len(),
-                self.frames.as_mut_ptr(),
-                self.frames.len(),
-                counts.as_mut_ptr(),
-            )
-        };
+        let number = ffi::feed(
+            &mut self.state,
+            page,
+            &mut self.carry,
+            &mut self.ends,
+            &mut self.lengths,
+            &mut self.kept,
+            &mut self.frames,
+            &mut counts,
+        );
         accepted(number)
     }
 
     /// Feeds the pages of a buffer, until one is cut or refused or the lists are full.
     pub fn feed_pages(&mut self, bytes: &[u8]) -> Fed {
         let mut out = [0; 4];
-        // SAFETY: each pointer goes with the length of its own slice, and `state` and `out` have
-        // the places that are written; all but the bytes are borrowed mutably, so they overlap
-        // nothing.
-        let number = unsafe {
-            ffi::embulgri_program_feed(
-                self.state.as_mut_ptr(),
-                bytes.as_ptr(),
-                bytes.len(),
-                self.carry.as_mut_ptr(),
-                self.carry.len(),
-                self.ends.as_mut_ptr(),
-                self.ends.len(),
-                self.lengths.as_mut_ptr(),
-                self.lengths.len(),
-                self.kept.as_mut_ptr(),
-                self.kept.len(),
-                self.frames.as_mut_ptr(),
-                self.frames.len(),
-                out.as_mut_ptr(),
-            )
-        };
+        let number = ffi::program_feed(
+            &mut self.state,
+            bytes,
+            &mut self.carry,
+            &mut self.ends,
+            &mut self.lengths,
+            &mut self.kept,
+            &mut self.frames,
+            &mut out,
+        );
         Fed {
             bytes: out[0] as usize,
             pages: out[1],

@@ -47,8 +47,7 @@ pub enum Sought {
 
 /// How many records the index of a stream has.
 pub fn count_of(stream: &[u8]) -> usize {
-    // SAFETY: the pointer and the length are those of one slice.
-    unsafe { ffi::embulgri_index_count(stream.as_ptr(), stream.len()) as usize }
+    ffi::index_count(stream) as usize
 }
 
 impl Index {
@@ -85,22 +84,13 @@ impl Index {
     /// Becomes the index of a stream, which has no more records; or gives the refusal.
     pub fn build(&mut self, stream: &[u8]) -> Result<(), Refusal> {
         let mut count = 0;
-        // SAFETY: each pointer goes with the length of its own slice, and `count` is the one place
-        // that is written beside the lists; all but the stream are borrowed mutably, so they
-        // overlap nothing.
-        let number = unsafe {
-            ffi::embulgri_index_build(
-                stream.as_ptr(),
-                stream.len(),
-                self.granules.as_mut_ptr(),
-                self.granules.len(),
-                self.places.as_mut_ptr(),
-                self.places.len(),
-                self.sequences.as_mut_ptr(),
-                self.sequences.len(),
-                &mut count,
-            )
-        };
+        let number = ffi::index_build(
+            stream,
+            &mut self.granules,
+            &mut self.places,
+            &mut self.sequences,
+            &mut count,
+        );
         accepted(number)?;
         self.granules.truncate(count as usize);
         self.places.truncate(count as usize);
@@ -111,22 +101,14 @@ impl Index {
     /// Searches for the record from which a reader that is to play the target is fed.
     pub fn seek(&self, target: u64) -> Sought {
         let (mut out, mut place) = ([0; 3], 0);
-        // SAFETY: each pointer goes with the length of its own slice, `out` has the three places
-        // that are written, and `place` is one more; both are borrowed mutably, so they overlap
-        // nothing.
-        let number = unsafe {
-            ffi::embulgri_index_seek(
-                self.granules.as_ptr(),
-                self.granules.len(),
-                self.places.as_ptr(),
-                self.places.len(),
-                self.sequences.as_ptr(),
-                self.sequences.len(),
-                target,
-                out.as_mut_ptr(),
-                &mut place,
-            )
-        };
+        let number = ffi::index_seek(
+            &self.granules,
+            &self.places,
+            &self.sequences,
+            target,
+            &mut out,
+            &mut place,
+        );
         let [found, record, probes] = out;
         match (accepted(number), found) {
             (Ok(()), 0) => Sought::Begin { probes },

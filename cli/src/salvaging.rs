@@ -56,25 +56,7 @@ impl Salvage {
         let (work, out) = (self.work.all_mut(), self.out.all_mut());
         let (what, places) = (self.what.all_mut(), self.places.all_mut());
         let sizes = self.sizes.all_mut();
-        // SAFETY: each pointer goes with the length of its own slice, and `counts` has the two
-        // places that are written; all but the input are borrowed mutably, so they overlap nothing.
-        let number = unsafe {
-            ffi::embulgri_salvage(
-                input.as_ptr(),
-                input.len(),
-                work.as_mut_ptr(),
-                work.len(),
-                out.as_mut_ptr(),
-                out.len(),
-                what.as_mut_ptr(),
-                what.len(),
-                places.as_mut_ptr(),
-                places.len(),
-                sizes.as_mut_ptr(),
-                sizes.len(),
-                self.counts.as_mut_ptr(),
-            )
-        };
+        let number = ffi::salvage(input, work, out, what, places, sizes, &mut self.counts);
         accepted(number)
     }
 
