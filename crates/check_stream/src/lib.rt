@@ -16,7 +16,7 @@ use walk::Found;
 mod gain;
 mod walk;
 
-#[derive(Drop)]
+#[derive(Clone, Copy)]
 pub enum Checked {
     // how many findings there are
     Found(usize),

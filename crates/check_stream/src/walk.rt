@@ -10,7 +10,7 @@ use reader::{Fed, Reader};
 use stream::Counts;
 
 // What is found on a page.
-#[derive(Drop)]
+#[derive(Clone, Copy)]
 pub(crate) struct Found {
     // the last packet is left unfinished
     pub(crate) unfinished: bool,
@@ -25,7 +25,7 @@ pub(crate) struct Found {
 }
 
 // A walk after some pages.
-#[derive(Drop)]
+#[derive(Clone, Copy)]
 pub(crate) struct Walk {
     // it was fed these pages
     pub(crate) reader: Reader,

@@ -12,7 +12,7 @@ use page_writer::PageWritten;
 use recording::Judged;
 use refusal::Refusal;
 
-#[derive(Drop)]
+#[derive(Clone, Copy)]
 pub enum Cropped {
     // how many bytes were written
     Bytes(usize),

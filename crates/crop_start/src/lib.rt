@@ -15,7 +15,7 @@ use reader::{Fed, Reader};
 use recording::Judged;
 use refusal::Refusal;
 
-#[derive(Drop)]
+#[derive(Clone, Copy)]
 pub enum CropStart {
     // the page, and the position at which its first packet starts
     At(usize, u64),
@@ -24,7 +24,7 @@ pub enum CropStart {
 }
 
 // The best page so far and where it starts, if there is one.
-#[derive(Drop)]
+#[derive(Clone, Copy)]
 struct Best {
     any: bool,
     page: usize,
@@ -32,7 +32,7 @@ struct Best {
 }
 
 // A walk over the pages: the reader that was fed those before, the next page and its place, and the best page of those before.
-#[derive(Drop)]
+#[derive(Clone, Copy)]
 struct Walk {
     reader: Reader,
     page: usize,

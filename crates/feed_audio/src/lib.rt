@@ -24,7 +24,7 @@ mod lists;
 mod packets;
 mod times;
 
-#[derive(Drop)]
+#[derive(Clone, Copy)]
 pub enum AudioFed {
     // what feeding an audio page answers
     Page(PageFed),

@@ -15,7 +15,7 @@ use page_layout::PageHeader;
 use refusal::Refusal;
 use stream::Core;
 
-#[derive(Drop)]
+#[derive(Clone, Copy)]
 pub(crate) enum Listed {
     // how many packets there are, the sum of their lengths, where they lie, and how many samples are then still to skip
     Filled(usize, u32, Placed, u16),

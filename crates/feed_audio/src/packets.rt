@@ -10,7 +10,7 @@ use refusal::Refusal;
 use stream::Pending;
 
 // The first piece of a page: its lacing values and bytes, and whether a packet ends with it.
-#[derive(Drop)]
+#[derive(Clone, Copy)]
 pub(crate) struct Piece {
     pub(crate) values: usize,
     pub(crate) bytes: usize,
@@ -42,7 +42,7 @@ pub(crate) fn first_piece(lacing: &[u8]) -> Piece
     }
 }
 
-#[derive(Drop)]
+#[derive(Clone, Copy)]
 pub(crate) enum Measured {
     // how many packets there are, and the sum of their lengths in samples
     All(usize, u32),
@@ -50,7 +50,7 @@ pub(crate) enum Measured {
     Refused(Refusal),
 }
 
-#[derive(Drop)]
+#[derive(Clone, Copy)]
 pub(crate) enum Same {
     // how many packets complete: each has one frame, no length coded, and this first byte
     Each(usize, u8),

@@ -17,7 +17,7 @@ use page_layout::PageHeader;
 use refusal::Refusal;
 use stream::{Core, Counts};
 
-#[derive(Drop)]
+#[derive(Clone, Copy)]
 pub(crate) enum Timed {
     // how many packets there are, the sum of their lengths, and where they lie
     Packets(usize, u32, Placed),

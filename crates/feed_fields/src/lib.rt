@@ -14,7 +14,7 @@ use page_layout::PageHeader;
 use refusal::Refusal;
 use stream::{Core, Pending, Phase};
 
-#[derive(Drop)]
+#[derive(Clone, Copy)]
 pub enum Checked {
     // no check holds
     Passed,

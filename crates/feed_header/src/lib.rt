@@ -17,7 +17,7 @@ use refusal::Refusal;
 use stream::{Core, PageFed, Pending, Phase, Shape, Tally};
 use tags_reader::TagsRead;
 
-#[derive(Drop)]
+#[derive(Clone, Copy)]
 pub enum HeaderFed {
     // what feeding a page of the two headers answers
     Page(PageFed),

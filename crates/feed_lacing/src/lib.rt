@@ -10,7 +10,7 @@ ghost use Rattle.stream.specs.Shape.{shape_of, is_ends, is_other, wrong_shape};
 use limits::PACKET_MAX;
 use stream::{Pending, Phase, Shape};
 
-#[derive(Drop)]
+#[derive(Clone, Copy)]
 pub enum Scan {
     // 9
     TooLong,

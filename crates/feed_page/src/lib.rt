@@ -45,7 +45,7 @@ fn check_unread(
     Checked::Passed
 }
 
-#[derive(Drop)]
+#[derive(Clone, Copy)]
 enum Due {
     // the core that expects the page, and the page's fields
     Page(Core, PageHeader),

@@ -17,7 +17,7 @@ use refusal::Refusal;
 
 // How far a run has come: the reader after the pages accepted, their bytes, how many they are, and how many places of each
 // list they filled.
-#[derive(Drop)]
+#[derive(Clone, Copy)]
 pub struct Progress {
     pub reader: Reader,
     pub bytes: usize,
@@ -26,7 +26,7 @@ pub struct Progress {
 }
 
 // Why a run stops.
-#[derive(Drop)]
+#[derive(Clone, Copy)]
 pub enum Stop {
     // the next page is refused
     Refused(Refusal),
@@ -36,13 +36,13 @@ pub enum Stop {
     Full,
 }
 
-#[derive(Drop)]
+#[derive(Clone, Copy)]
 pub struct PagesFed {
     pub progress: Progress,
     pub stop: Stop,
 }
 
-#[derive(Drop)]
+#[derive(Clone, Copy)]
 enum Turn {
     Goes(Progress),
     Stops(Stop),
@@ -152,7 +152,7 @@ pub fn feed_pages(
 // ---- with a reader in sixteen numbers
 
 // The bytes of the pages accepted, how many they are, how many places of each list they filled, and why the run stopped.
-#[derive(Drop)]
+#[derive(Clone, Copy)]
 pub struct StatePagesFed {
     pub bytes: usize,
     pub pages: usize,

@@ -8,7 +8,7 @@ use head_fields::Head;
 use refusal::Refusal;
 use stream::{Core, Pending, Phase, Tally};
 
-#[derive(Drop)]
+#[derive(Clone, Copy)]
 pub enum CoreOpened {
     // the core and tally of a reader opened part way
     At(Core, Tally),

@@ -8,7 +8,7 @@ ghost use Rattle.granule.specs.declared.Position.TheVariants.{Unset as NoneYet, 
 use refusal::Refusal;
 
 // The last granule position of an audio page.
-#[derive(Drop)]
+#[derive(Clone, Copy)]
 pub enum Position {
     // none yet
     Unset,
@@ -20,7 +20,7 @@ pub enum Position {
 
 // Where the packets of a page lie: the position before them, the hole in front of them, how many of their samples are
 // trimmed, and the position that their stamps run from.
-#[derive(Drop)]
+#[derive(Clone, Copy)]
 pub struct Placed {
     pub before: u64,
     pub hole: u64,
@@ -28,7 +28,7 @@ pub struct Placed {
     pub from: u64,
 }
 
-#[derive(Drop)]
+#[derive(Clone, Copy)]
 pub enum Judged {
     Placed(Placed),
     // 19, 18 or 17

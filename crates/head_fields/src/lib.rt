@@ -17,7 +17,7 @@ pub const START_LENGTH: usize = 19;
 
 // The fields of a header. Of the mapping's 255 places one for each index is used, and the others are zero. Family 3 has no
 // indices. Its matrix is not in the record.
-#[derive(Drop)]
+#[derive(Clone, Copy)]
 pub struct Head {
     pub version: u8,
     pub channels: u8,

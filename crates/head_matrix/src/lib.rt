@@ -8,7 +8,7 @@ use head_fields::place;
 use head_reader::Verdict;
 use refusal::Refusal;
 
-#[derive(Drop)]
+#[derive(Clone, Copy)]
 pub enum SizeRead {
     // how many bytes the matrix has, 0 where the family has none
     Size(usize),
@@ -16,7 +16,7 @@ pub enum SizeRead {
     Refused(Refusal),
 }
 
-#[derive(Drop)]
+#[derive(Clone, Copy)]
 pub enum EntryRead {
     Entry(i16),
     // 12, 13 or 20

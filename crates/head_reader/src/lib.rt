@@ -7,7 +7,7 @@ use head_fields::{Head, SIGNATURE, START_LENGTH, place};
 use limits::PACKET_MAX;
 use refusal::Refusal;
 
-#[derive(Drop)]
+#[derive(Clone, Copy)]
 pub enum Verdict {
     // the record holds the fields
     Right,
@@ -16,7 +16,7 @@ pub enum Verdict {
 }
 
 // The record holds an array, so it is next to the verdict and not in it. Under a refusal it is all zeros.
-#[derive(Drop)]
+#[derive(Clone, Copy)]
 pub struct HeadRead {
     pub verdict: Verdict,
     pub head: Head,

@@ -6,7 +6,7 @@ ghost use Rattle.head_writer.specs.Writing.{start_of, head_bytes, HeadFits, Wrot
 use head_fields::{Head, SIGNATURE, START_LENGTH, place};
 use refusal::Refusal;
 
-#[derive(Drop)]
+#[derive(Clone, Copy)]
 pub enum HeadWritten {
     // how many bytes were written
     Bytes(usize),

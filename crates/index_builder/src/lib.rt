@@ -14,7 +14,7 @@ use index_search::IndexRecord;
 use recording::Judged;
 use refusal::Refusal;
 
-#[derive(Drop)]
+#[derive(Clone, Copy)]
 pub enum IndexBuilt {
     // how many records the index has
     Built(usize),

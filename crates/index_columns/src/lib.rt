@@ -11,7 +11,7 @@ ghost use Rattle.index_columns.specs.Answers.{told_columns};
 use index_search::{Fall, IndexRecord, Search, Sought};
 use refusal::Refusal;
 
-#[derive(Drop)]
+#[derive(Clone, Copy)]
 pub enum ColumnsSought {
     // what seeking answers, 26 with a place included
     Found(Sought),

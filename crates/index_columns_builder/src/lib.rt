@@ -14,7 +14,7 @@ use recording::Judged;
 use refusal::Refusal;
 
 // Whether the records of a stream fit.
-#[derive(Drop)]
+#[derive(Clone, Copy)]
 enum Room {
     Fits,
     // 2 to 18 or 24: the stream is not whole; 22: the records do not fit

@@ -9,7 +9,7 @@ use refusal::Refusal;
 
 // A page of a stream where an audio packet completes: its granule position, the place of its first byte, and its sequence
 // number.
-#[derive(Drop)]
+#[derive(Clone, Copy)]
 pub struct IndexRecord {
     pub granule: u64,
     pub place: u64,
@@ -19,7 +19,7 @@ pub struct IndexRecord {
 // A search among the places from `low` to before `high`. One that halves looks for the last granule position at or before
 // `number`, and counts its probes; else it goes from place to place to the first fall, and `number` is the granule position
 // before `low`.
-#[derive(Drop)]
+#[derive(Clone, Copy)]
 pub struct Search {
     pub low: usize,
     pub high: usize,
@@ -29,13 +29,13 @@ pub struct Search {
 }
 
 // The first place of an index whose granule position is below the one before it.
-#[derive(Drop)]
+#[derive(Clone, Copy)]
 pub enum Fall {
     At(usize),
     Nowhere,
 }
 
-#[derive(Drop)]
+#[derive(Clone, Copy)]
 pub enum Sought {
     // the place of the record in the index, and the number of probes
     Record(usize, u64),

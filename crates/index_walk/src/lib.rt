@@ -11,7 +11,7 @@ use index_search::IndexRecord;
 pub const NOWHERE: usize = 18446744073709551615;
 
 // What the next page of a stream is.
-#[derive(Drop)]
+#[derive(Clone, Copy)]
 pub enum Due {
     // the identification header
     Head,
@@ -22,7 +22,7 @@ pub enum Due {
 
 // How far a walk has come: the place of the next page, what that is, how many records were made, and of the page before it the
 // record and its place in the index, `NOWHERE` if it has none there.
-#[derive(Drop)]
+#[derive(Clone, Copy)]
 pub struct Walk {
     pub at: usize,
     pub due: Due,

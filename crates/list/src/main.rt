@@ -9,7 +9,7 @@ use refusal::Refusal;
 // How far a listing has come. The bytes of the buffer from `from` to `to` are not fed yet. The places of the lists from
 // `listed` to `packets` are not written yet. `filled` bytes of the output are filled. `stop` is why the last run of pages
 // stopped, and `pages` is how many pages were accepted so far.
-#[derive(Drop)]
+#[derive(Clone, Copy)]
 struct Listing {
     reader: Reader,
     from: usize,
@@ -21,14 +21,14 @@ struct Listing {
     stop: Stop,
 }
 
-#[derive(Drop)]
+#[derive(Clone, Copy)]
 enum Step {
     Goes(Listing),
     Ends,
 }
 
 // What a read gave.
-#[derive(Drop)]
+#[derive(Clone, Copy)]
 enum Input {
     Bytes(usize),
     End,

@@ -10,7 +10,7 @@ ghost use Rattle.list_entries.specs.Code.{Sound, tail_line, is_again, Stands, Ag
 use list_lines::LONGEST;
 
 // How many lines were put, and the place after them.
-#[derive(Drop)]
+#[derive(Clone, Copy)]
 pub struct Listed {
     pub count: usize,
     pub at: usize,
@@ -19,7 +19,7 @@ pub struct Listed {
 // Bytes of a line. The stamps from `base` to `base + 9999` have the first `digits` bytes of `upper` in common. After the
 // stamp of a packet of `samples` samples in `frames` frames, `kept` of the samples kept, come `bytes` bytes. The first
 // eight of these are those of `first`, and the last eight those of `last`. Where `digits` is 0, nothing is kept.
-#[derive(Drop)]
+#[derive(Clone, Copy)]
 struct Repeat {
     base: u64,
     samples: u64,
@@ -33,7 +33,7 @@ struct Repeat {
 }
 
 // The place after a line, and the line's bytes.
-#[derive(Drop)]
+#[derive(Clone, Copy)]
 struct Next {
     at: usize,
     repeat: Repeat,

@@ -14,7 +14,7 @@ use tags_layout::PartRead;
 use tags_reader::TagsRead;
 use text_pieces::Pieces;
 
-#[derive(Drop)]
+#[derive(Clone, Copy)]
 pub enum HeadersWritten {
     // how many bytes the lines have
     Bytes(usize),

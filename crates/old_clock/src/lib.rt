@@ -4,13 +4,13 @@ ghost use Rattle.old_clock.specs.Clock.{start_clock, right_length, add_samples, 
 
 use refusal::Refusal;
 
-#[derive(Drop)]
+#[derive(Clone, Copy)]
 pub struct Clock {
     pub reading: f32,
     pub count: u64,
 }
 
-#[derive(Drop)]
+#[derive(Clone, Copy)]
 pub enum Added {
     // the clock after the packet
     Clock(Clock),

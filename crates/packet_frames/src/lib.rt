@@ -11,7 +11,7 @@ pub const FRAME_MAX: usize = 1275;
 // No packet has more samples, 120 ms (RFC 6716, 3.4, R5).
 const SAMPLES_MAX: usize = 5760;
 
-#[derive(Drop)]
+#[derive(Clone, Copy)]
 enum Found {
     // there are too few bytes
     Missing,
@@ -19,7 +19,7 @@ enum Found {
     Value(usize, usize),
 }
 
-#[derive(Drop)]
+#[derive(Clone, Copy)]
 pub enum Framed {
     // there are too few bytes, or the packet is illegal
     Illegal,
@@ -28,7 +28,7 @@ pub enum Framed {
 }
 
 // How the frames of a packet lie in it.
-#[derive(Drop)]
+#[derive(Clone, Copy)]
 enum Layout {
     Illegal,
     // how many, whether each has a length of its own, the bytes of padding at the end, and the place of what follows

@@ -8,7 +8,7 @@ use packet_frames::{FRAME_MAX, Framed};
 use refusal::Refusal;
 
 // What feeding lists of an audio packet: its length in samples at 48 kHz, and the number of frames of its first Opus packet.
-#[derive(Drop)]
+#[derive(Clone, Copy)]
 pub struct Measure {
     pub samples: u32,
     pub frames: u32,
@@ -16,14 +16,14 @@ pub struct Measure {
 
 // What an audio packet is made of. All but the length is of its first Opus packet: its frames, whether it is stereo, and
 // whether every frame is empty.
-#[derive(Drop)]
+#[derive(Clone, Copy)]
 pub struct Contents {
     pub measure: Measure,
     pub stereo: bool,
     pub silent: bool,
 }
 
-#[derive(Drop)]
+#[derive(Clone, Copy)]
 pub enum PacketRead {
     // what the packet is made of
     Legal(Contents),
@@ -31,7 +31,7 @@ pub enum PacketRead {
     Refused(Refusal),
 }
 
-#[derive(Drop)]
+#[derive(Clone, Copy)]
 enum OpusRead {
     Illegal,
     // what an Opus packet is made of, and the place after it
@@ -39,7 +39,7 @@ enum OpusRead {
 }
 
 // The lengths of the packets of some streams.
-#[derive(Drop)]
+#[derive(Clone, Copy)]
 enum Lengths {
     // a packet is illegal
     Broken,

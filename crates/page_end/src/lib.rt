@@ -4,7 +4,7 @@ ghost use Rattle.page_end.specs.End.{end_at, found_end};
 
 use page_size::Extent;
 
-#[derive(Drop)]
+#[derive(Clone, Copy)]
 pub enum End {
     // the place after the page
     At(usize),

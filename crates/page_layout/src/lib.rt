@@ -26,7 +26,7 @@ pub const COUNT_AT: usize = 26;
 pub const LACING_AT: usize = 27;
 
 // The fields of a page before its lacing values. Flags: 1 continued, 2 first, 4 last.
-#[derive(Drop)]
+#[derive(Clone, Copy)]
 pub struct PageHeader {
     pub flags: u8,
     pub granule: u64,

@@ -3,7 +3,7 @@ ghost use Rattle.page_pieces.specs.Pieces.{PiecesAre};
 
 // How many packets end, the length of each in bytes, and how many bytes are left of a packet that goes on. Places of
 // `lengths` past `count` are zero.
-#[derive(Drop)]
+#[derive(Clone, Copy)]
 pub struct Pieces {
     pub count: usize,
     pub lengths: [usize; 255],

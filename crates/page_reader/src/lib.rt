@@ -8,7 +8,7 @@ ghost use Rattle.page_reader.specs.Reading.{read_page, told_read};
 use page_layout::{CHECKSUM_AT, PageHeader};
 use refusal::Refusal;
 
-#[derive(Drop)]
+#[derive(Clone, Copy)]
 pub enum PageRead {
     // the fields of the page
     Page(PageHeader),

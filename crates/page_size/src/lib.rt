@@ -6,7 +6,7 @@ ghost use Rattle.page_size.specs.Extent.{extent_in, page_extent, told_extent};
 use page_layout::{LACING_AT, VERSION_AT};
 
 // Where a page would end.
-#[derive(Drop)]
+#[derive(Clone, Copy)]
 pub enum Extent {
     // at a place of the buffer or past it
     Ends(usize),

@@ -6,7 +6,7 @@ ghost use Rattle.page_writer.specs.Writing.{with_checksum, start_of, page_bytes,
 use page_layout::{CAPTURE, CHECKSUM_AT, LACING_AT, PageHeader};
 use refusal::Refusal;
 
-#[derive(Drop)]
+#[derive(Clone, Copy)]
 pub enum PageWritten {
     // how many bytes were written
     Bytes(usize),

@@ -19,14 +19,14 @@ use refusal::Refusal;
 use stream::{Core, Counts, PageFed, Tally};
 
 // A reader comes only from starting, opening, feeding and sixteen numbers.
-#[derive(Drop)]
+#[derive(Clone, Copy)]
 pub struct Reader {
     core: Core,
     tally: Tally,
 }
 
 // What a reader has counted on the pages that it accepted, in samples: kept, skipped and trimmed ones, and the holes.
-#[derive(Drop)]
+#[derive(Clone, Copy)]
 pub struct SampleTotals {
     pub kept: u64,
     pub skipped: u64,
@@ -34,7 +34,7 @@ pub struct SampleTotals {
     pub hole: u64,
 }
 
-#[derive(Drop)]
+#[derive(Clone, Copy)]
 pub enum Opened {
     // a reader that waits for an audio page
     At(Reader),
@@ -42,7 +42,7 @@ pub enum Opened {
     Refused(Refusal),
 }
 
-#[derive(Drop)]
+#[derive(Clone, Copy)]
 pub enum Fed {
     // the next reader, and the page's own record
     Accepted(Reader, Counts),
@@ -210,7 +210,7 @@ pub fn feed_with(
 
 // ---- a reader as sixteen numbers
 
-#[derive(Drop)]
+#[derive(Clone, Copy)]
 pub enum StateOpened {
     // the numbers are those of the reader
     Done,
@@ -218,7 +218,7 @@ pub enum StateOpened {
     Refused(Refusal),
 }
 
-#[derive(Drop)]
+#[derive(Clone, Copy)]
 pub enum StateFed {
     // the page's own record; the numbers are those of the next reader
     Accepted(Counts),

@@ -12,7 +12,7 @@ use limits::PACKET_MAX;
 use reader::Reader;
 use refusal::Refusal;
 
-#[derive(Drop)]
+#[derive(Clone, Copy)]
 pub enum Judged {
     // how many pages and how many audio packets it has
     Whole(usize, usize),
@@ -21,7 +21,7 @@ pub enum Judged {
 }
 
 // The pages accepted so far: the reader after them, their bytes, how many they are, and how many audio packets they complete.
-#[derive(Drop)]
+#[derive(Clone, Copy)]
 struct Accepted {
     reader: Reader,
     bytes: usize,
@@ -29,7 +29,7 @@ struct Accepted {
     packets: usize,
 }
 
-#[derive(Drop)]
+#[derive(Clone, Copy)]
 enum Step {
     Goes(Accepted),
     Ends(Judged),

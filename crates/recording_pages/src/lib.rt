@@ -7,7 +7,7 @@ ghost use Rattle.recording_pages.specs.Places.{page_at, place_of, headers_end};
 use page_end::End;
 
 // A page of a buffer: its number, the first being page 0, and where it begins.
-#[derive(Drop)]
+#[derive(Clone, Copy)]
 pub struct Place {
     pub page: usize,
     pub at: usize,

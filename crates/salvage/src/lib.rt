@@ -16,7 +16,7 @@ use walk::Walk;
 mod lines;
 mod walk;
 
-#[derive(Drop)]
+#[derive(Clone, Copy)]
 pub enum Salvaged {
     // how many bytes and how many lines were written
     Written(usize, usize),

@@ -14,7 +14,7 @@ use salvage_list::Listed;
 use salvage_rules::{Form, Prior};
 
 // A walk over the kept pages, after some of them.
-#[derive(Drop)]
+#[derive(Clone, Copy)]
 pub(crate) struct Walk {
     pub(crate) prior: Prior,
     // the packet that goes on after the last of them is cut by a later break
@@ -31,7 +31,7 @@ pub(crate) struct Walk {
 }
 
 // What is told of one page.
-#[derive(Drop)]
+#[derive(Clone, Copy)]
 pub(crate) struct Changes {
     // bytes before it are skipped, and how many
     pub(crate) skip: bool,

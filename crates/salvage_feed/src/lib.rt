@@ -9,7 +9,7 @@ ghost use Rattle.salvage_feed.specs.Feeding.{tidied_bytes, FeedsTidied};
 use salvage_rules::Form;
 use stream::{Core, PageFed};
 
-#[derive(Drop)]
+#[derive(Clone, Copy)]
 pub enum TidiedFed {
     // the core after the page
     Accepted(Core),

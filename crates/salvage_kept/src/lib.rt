@@ -24,7 +24,7 @@ use stream::Core;
 // The fewest bytes of a page.
 const PAGE_LEAST: usize = 27;
 
-#[derive(Drop)]
+#[derive(Clone, Copy)]
 pub enum KeptFound {
     // how many places of the work list have a kept page, or none where a page went missing
     Pages(usize),
@@ -33,7 +33,7 @@ pub enum KeptFound {
 }
 
 // A point of the pass, after some pages of the list.
-#[derive(Drop)]
+#[derive(Clone, Copy)]
 struct Point {
     // the reader's core after them
     core: Core,
@@ -47,21 +47,21 @@ struct Point {
 }
 
 // Where the pass is, and the point to which it goes back.
-#[derive(Drop)]
+#[derive(Clone, Copy)]
 struct Pass {
     now: Point,
     saved: Point,
 }
 
 // How feeding one page ends.
-#[derive(Drop)]
+#[derive(Clone, Copy)]
 enum NextFed {
     Accepted(Pass),
     Refused,
 }
 
 // How a run of feedings ends: before the page at this index, which is refused, or at the end of the list.
-#[derive(Drop)]
+#[derive(Clone, Copy)]
 struct Run {
     pass: Pass,
     index: usize,

@@ -19,7 +19,7 @@ pub const MISSING: u64 = 18446744073709551615;
 
 // A page of a list: its index and its place there, what joins it to its neighbours, whether the packet that goes on after it is
 // cut by a later break, and which of its pieces are removed.
-#[derive(Drop)]
+#[derive(Clone, Copy)]
 pub struct Listed {
     pub index: usize,
     pub place: u64,
@@ -29,14 +29,14 @@ pub struct Listed {
 }
 
 // The fields of a page, and the place after it.
-#[derive(Drop)]
+#[derive(Clone, Copy)]
 struct Seen {
     header: PageHeader,
     end: usize,
 }
 
 // The serial of the stream that is salvaged.
-#[derive(Drop)]
+#[derive(Clone, Copy)]
 enum SerialFound {
     Serial(u32),
     // no good page has a first-page mark

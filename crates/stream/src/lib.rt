@@ -4,7 +4,7 @@ use granule::Position;
 use refusal::Refusal;
 
 // How far the stream has come.
-#[derive(Drop)]
+#[derive(Clone, Copy)]
 pub enum Phase {
     // no page accepted yet
     First,
@@ -19,7 +19,7 @@ pub enum Phase {
 }
 
 // The unfinished packet.
-#[derive(Drop)]
+#[derive(Clone, Copy)]
 pub enum Pending {
     Nothing,
     // so many of its bytes are in the carry buffer
@@ -30,7 +30,7 @@ pub enum Pending {
 
 // All that decides a refusal, a stamp or a length, besides the carry bytes up to the held count. `next` is the sequence number
 // that is due.
-#[derive(Drop)]
+#[derive(Clone, Copy)]
 pub struct Core {
     pub pending: Pending,
     pub position: Position,
@@ -43,7 +43,7 @@ pub struct Core {
 
 // All that only counts: the samples still to skip, and those of all accepted pages that were kept, skipped and trimmed, and the
 // holes. A total is modulo 2^64, which no stream reaches.
-#[derive(Drop)]
+#[derive(Clone, Copy)]
 pub struct Tally {
     pub skip: u16,
     pub kept: u64,
@@ -54,7 +54,7 @@ pub struct Tally {
 
 // An accepted page: the packets that it lists, their samples, how many of these are kept, skipped and trimmed, and the hole
 // in front of them.
-#[derive(Drop)]
+#[derive(Clone, Copy)]
 pub struct Counts {
     pub packets: u64,
     pub samples: u64,
@@ -65,7 +65,7 @@ pub struct Counts {
 }
 
 // What feeding a page answers.
-#[derive(Drop)]
+#[derive(Clone, Copy)]
 pub enum PageFed {
     // the next core and tally, and the page's own record
     Accepted(Core, Tally, Counts),
@@ -74,7 +74,7 @@ pub enum PageFed {
 }
 
 // What a page is of one packet, by its lacing values.
-#[derive(Drop)]
+#[derive(Clone, Copy)]
 pub enum Shape {
     // its last piece and nothing else
     Ends,

@@ -3,7 +3,7 @@ use limits::LIST_MAX;
 use page_end::End;
 use reader::{Fed, Reader};
 
-#[derive(Drop)]
+#[derive(Clone, Copy)]
 pub(crate) enum Stage {
     // feeding goes on
     Feeding,
@@ -18,7 +18,7 @@ pub(crate) enum Stage {
 }
 
 // How far feeding has come. The identification header's packet has so many bytes, none before its page was accepted.
-#[derive(Drop)]
+#[derive(Clone, Copy)]
 pub(crate) struct Progress {
     reader: Reader,
     pub(crate) header_size: usize,
@@ -27,14 +27,14 @@ pub(crate) struct Progress {
 }
 
 // The bytes of the input buffer from `start` to `end` are read and not fed.
-#[derive(Drop)]
+#[derive(Clone, Copy)]
 struct State {
     progress: Progress,
     start: usize,
     end: usize,
 }
 
-#[derive(Drop)]
+#[derive(Clone, Copy)]
 enum Got {
     Bytes(usize),
     Nothing,

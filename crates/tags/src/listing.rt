@@ -7,7 +7,7 @@ use tags_reader::TagsRead;
 
 // How far the listing of a matrix or of comments has come: which entry is next, or where the next comment's length is in the
 // packet, how many bytes of the output buffer are filled, and whether it goes on.
-#[derive(Drop)]
+#[derive(Clone, Copy)]
 struct Listing {
     place: usize,
     filled: usize,

@@ -8,7 +8,7 @@ ghost use Rattle.tags_comment.specs.Gain.{right_gain, gain_of, comment_gain, tol
 
 use refusal::Refusal;
 
-#[derive(Drop)]
+#[derive(Clone, Copy)]
 pub enum GainRead {
     Gain(i16),
     // 21

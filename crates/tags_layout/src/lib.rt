@@ -19,13 +19,13 @@ pub const VENDOR_START: usize = 12;
 pub const EMPTY_SIZE: usize = 16;
 
 // A part of a packet: where it starts, and how many bytes it has.
-#[derive(Drop)]
+#[derive(Clone, Copy)]
 pub struct Part {
     pub start: usize,
     pub size: usize,
 }
 
-#[derive(Drop)]
+#[derive(Clone, Copy)]
 pub enum PartRead {
     Found(Part),
     // 14, or 20 of a comment

@@ -10,7 +10,7 @@ use refusal::Refusal;
 use tags_layout::{PartRead, SIGNATURE, VENDOR_PLACE, VENDOR_START};
 use tags_rules::Gains;
 
-#[derive(Drop)]
+#[derive(Clone, Copy)]
 pub enum TagsRead {
     // how many comments the packet has
     Count(usize),
@@ -19,7 +19,7 @@ pub enum TagsRead {
 }
 
 // A walk over the comments.
-#[derive(Drop)]
+#[derive(Clone, Copy)]
 enum Walk {
     // the packet is no comment header
     Wrong,

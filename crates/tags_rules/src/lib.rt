@@ -5,7 +5,7 @@ ghost use Rattle.tags_rules.specs.Right.{track_gain, album_gain};
 ghost use Rattle.tags_rules.specs.Code.{judged, told_gains};
 
 // What the comments up to one give.
-#[derive(Drop)]
+#[derive(Clone, Copy)]
 pub enum Gains {
     // one of them is wrong, or a gain is there twice
     Wrong,

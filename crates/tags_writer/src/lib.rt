@@ -11,7 +11,7 @@ use refusal::Refusal;
 use tags_layout::{EMPTY_SIZE, SIGNATURE, VENDOR_PLACE, VENDOR_START};
 use tags_rules::Gains;
 
-#[derive(Drop)]
+#[derive(Clone, Copy)]
 pub enum TagsWritten {
     // how many bytes were written
     Bytes(usize),

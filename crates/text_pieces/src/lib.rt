@@ -4,7 +4,7 @@ ghost use Rattle.std.specs.Prelude.{◌≡◌};
 ghost use Rattle.text_pieces.specs.Pieces.{none, moved_to};
 
 // The place after the pieces that were put, and whether each of them fitted.
-#[derive(Drop)]
+#[derive(Clone, Copy)]
 pub struct Pieces {
     pub at: usize,
     pub whole: bool,

@@ -4,7 +4,7 @@ ghost use Rattle.utf8.specs.Characters.{LengthTold, LengthTaken, lead_bits, tail
 ghost use Rattle.utf8.specs.Characters.{right_number, length_at, no_character, character_at, utf8};
 
 // A right character: how many bytes it has, and its number. Where there is none, both are 0.
-#[derive(Drop)]
+#[derive(Clone, Copy)]
 pub struct Character {
     pub size: usize,
     pub number: u32,

@@ -1,0 +1,37 @@
+-- `buffers::move_down` meets its contract: a byte goes to no place above its own. Assumes nothing.
+use Prim.Native.Nat.{◌-◌, ◌≤◌}
+use native.Mathlib.Omega.{arith}
+use borrow.Author.Rules.{rules}
+use lib.ListN.{length}
+use Rattle.buffers.proofs.Moving.{Moving, moving_starts, moving_on, moving_ends, same_size}
+use Rattle.buffers.proofs.move_down.Goals as goal
+use Rattle.buffers.proofs.move_down.Lts as lts
+
+-- where a byte is moved
+module _ (c : lts.After-slice_known-in-loop-i-1 invariant_loop decreases_loop) where
+  abbrev here : lts.At-loop-i invariant_loop decreases_loop
+  here = c.before.before
+
+  inside : here.least-end.result ≤ length here.args.buffer.now
+  inside = omega (arith, here.least-end.ensures)
+
+pub loop-i-init : goal.loop-i-init
+loop-i-init c = moving_starts _ _ _
+
+pub bounds-buffer-i : goal.bounds-buffer-i
+bounds-buffer-i c = omega (arith, same_size (here c).loop-i.invariant (inside c), inside c, c.loop-i-test.true)
+
+pub bounds-buffer-n : goal.bounds-buffer-n
+bounds-buffer-n c = omega (arith, same_size (here c).loop-i.invariant (inside c), inside c, c.loop-i-test.true, (here c).loop-i.invariant.place)
+
+pub loop-i-smaller : goal.loop-i-smaller
+loop-i-smaller c = omega arith
+
+pub loop-i-preserved : goal.loop-i-preserved
+loop-i-preserved c = moving_on (here c).loop-i.invariant (inside c) c.loop-i-test.true
+
+pub shape_of-buffer : goal.shape_of-buffer
+shape_of-buffer c = same_size c.loop-i.invariant (omega (arith, c.least-end.ensures))
+
+pub returns : goal.returns
+returns c = moving_ends c.loop-i.invariant (omega (arith, c.least-end.ensures)) c.least-end.ensures c.loop-i-test.false

@@ -1,0 +1,23 @@
+-- `embulgri::saving::embulgri_salvage` meets its contract. Assumes nothing.
+use mathlib.Core.Path.{refl}
+use borrow.Author.Rules.{rules}
+use Rattle.embulgri.proofs.Savings.{salvaged_as, written-told, refused-told, counts_stay}
+use Rattle.embulgri.proofs.saving.embulgri_salvage.Goals as goal
+
+pub returns-in-Written : goal.returns-in-Written
+returns-in-Written c = 
+    let is = salvaged_as _ _ _ _ _ _ c.salvage.result c.salvage.ensures (written-told c.in-Written.n c.in-Written.lines c.in-Written.is) in
+    record {
+      salvages = record { told = is.told; free = tt; output = is.output; whats = is.whats; spots = is.spots; counts = is.counts };
+      counts = refl;
+    }
+
+pub returns-in-Refused : goal.returns-in-Refused
+returns-in-Refused c = 
+    let old = c.args.counts.now in
+    let why = c.in-Refused.why in
+    let is = salvaged_as _ _ _ _ _ _ c.salvage.result c.salvage.ensures (refused-told old why c.in-Refused.is c.number.ensures) in
+    record {
+      salvages = record { told = is.told; free = tt; output = is.output; whats = is.whats; spots = is.spots; counts = is.counts };
+      counts = counts_stay old why c.number.ensures;
+    }

@@ -1,0 +1,92 @@
+-- `feed_audio::packets::measure_page` meets its contract: `Measuring.antt` has the held packet's cases. Assumes nothing.
+use Prim.Native.Nat.{ℕ, ◌+◌, ◌<◌, ◌≤◌}
+use mathlib.Core.Path.{◌≡◌, refl, sym, ◌∙◌}
+use native.Mathlib.Omega.{arith}
+use borrow.Author.Rules.{rules}
+use lib.ListN.{length, length-set}
+use lib.Seq.{length-take-le}
+use Rattle.octets.specs.Octets.{total}
+use Rattle.packet_reader.specs.declared.Measure.{Measure}
+use Rattle.stream.specs.Packets.{samples_of}
+use Rattle.stream.specs.declared.Pending.TheVariants.{Nothing, Held, Dropped}
+use Rattle.feed_audio.specs.Code.{measures_in, Packable}
+use Rattle.feed_audio.proofs.Measuring.{read_as, packable, none_yet, first-sums, first-refused, first-measured}
+use Rattle.feed_audio.proofs.packets.measure_page.Goals as goal
+use Rattle.feed_audio.proofs.packets.measure_page.Lts as lts
+
+-- the held packet lies in the carry buffer
+held : (c : lts.In-Held-2) → c.in-Held.n + c.args.bytes ≤ length c.args.carry.now
+held c =
+    let q : c.args.pending ≡ Held c.in-Held.n = c.in-Held.is in
+    rw q at c.requires.held
+
+-- the held packet's measure, which fits one number
+abbrev measured : lts.In-Legal-2 → Measure
+measured c = c.contents.given.0.0.measure
+
+fits : (c : lts.In-Legal-2) → Packable (measured c)
+fits c = packable _ _ _ (read_as c.read_packet.ensures c.in-Legal.is)
+
+pub measure-requires : goal.measure-requires
+unfolding total samples_of measures_in
+measure-requires c = 
+    let fit = c.requires in
+    record { few = fit.few; within = omega arith; bytes = omega arith; room = omega arith; one = omega arith; adds = refl; small = omega arith }
+
+pub measure-requires-in-Dropped : goal.measure-requires-in-Dropped
+unfolding total samples_of measures_in
+measure-requires-in-Dropped c = 
+    let fit = c.requires in
+    record { few = fit.few; within = omega arith; bytes = omega arith; room = omega arith; one = omega arith; adds = refl; small = omega arith }
+
+pub overflow_add-whole : goal.overflow_add-whole
+overflow_add-whole c = omega (arith, held c.before)
+
+pub slice_bounds-read_packet-end : goal.slice_bounds-read_packet-end
+slice_bounds-read_packet-end c = sym (length-take-le _ _ (held c.before.before))
+
+pub packed-requires : goal.packed-requires
+packed-requires c = fits c.before.before
+
+pub measure-requires-in-Legal : goal.measure-requires-in-Legal
+measure-requires-in-Legal c = 
+    let got = c.before.before.before.before in
+    let fit = fits got in
+    let size : 0 < length got.args.measures.now = omega arith in
+    record {
+      few = got.requires.few;
+      within = got.requires.within;
+      bytes = got.requires.rest;
+      room = simp length-set (omega arith);
+      one = omega arith;
+      adds = rw c.packed.ensures (first-sums got.args.measures.now (measured got) size fit);
+      small = omega (arith, fit.samples);
+    }
+
+pub returns-in-Nothing : goal.returns-in-Nothing
+unfolding measures_in
+returns-in-Nothing c = 
+    let q : c.args.pending ≡ Nothing = c.in-Nothing.is in
+    rw q (none_yet c.measure.ensures)
+
+pub returns-in-Dropped : goal.returns-in-Dropped
+unfolding measures_in
+returns-in-Dropped c = 
+    let q : c.args.pending ≡ Dropped = c.in-Dropped.is in
+    rw q (none_yet c.measure-in-Dropped.ensures)
+
+pub returns-in-Refused : goal.returns-in-Refused
+returns-in-Refused c = 
+    let q : c.args.pending ≡ Held c.in-Held.n = c.in-Held.is in
+    rw q (first-refused _ _ _ _ (read_as c.read_packet.ensures c.in-Refused.is))
+
+pub shape_of-measures-in-Legal : goal.shape_of-measures-in-Legal
+shape_of-measures-in-Legal c = c.measures-in-Legal-1.given ∙ simp length-set
+
+pub returns-in-Legal : goal.returns-in-Legal
+returns-in-Legal c = 
+    let q : c.args.pending ≡ Held c.in-Held.n = c.in-Held.is in
+    let size : 0 < length c.args.measures.now = omega (arith, c.requires.room) in
+    rw q
+    (first-measured _ _ _ c.args.measures.now (read_as c.read_packet.ensures c.in-Legal.is) size
+    (rw c.packed.ensures at c.measure-in-Legal.ensures))

@@ -1,0 +1,6 @@
+-- `granule::place_first` meets its contract. Assumes nothing.
+use borrow.Author.Rules.{rules}
+use Rattle.granule.proofs.place_first.Goals as goal
+
+pub returns : goal.returns
+returns c = rw (c.minus-at.ensures, c.minus.ensures)

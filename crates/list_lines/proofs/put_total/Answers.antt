@@ -1,0 +1,71 @@
+-- `list_lines::put_total` meets its contract: four numbers and their names, and a line feed. Assumes nothing.
+use mathlib.Core.Path.{◌≡◌, refl, sym, ◌∙◌}
+use mathlib.Core.Bool.{false}
+use Prim.Native.Nat.{◌+◌, ◌≤◌}
+use native.Mathlib.Omega.{arith}
+use borrow.Author.Rules.{rules}
+use borrow.Author.Tests.{ltb-false}
+use lib.Dec.{ltb}
+use lib.ListN.{length, length-set}
+use Rattle.text_put.proofs.Laying.{one_store, laid_as, put_all, put-none}
+use Rattle.list_lines.specs.Lines.{total_kept, and_skipped, and_trimmed, and_hole, total_line}
+use Rattle.list_lines.proofs.Lines.{length-pair, length-total, laid-total}
+use Rattle.list_lines.proofs.put_total.Goals as goal
+use Rattle.list_lines.proofs.put_total.Lts as lts
+
+-- the line fits
+tested : (c : lts.Else-lacks_total) → let a = c.args in ltb (length a.out.now) (a.at + length (total_line a.kept a.skipped a.trimmed a.hole)) ≡ false
+tested c = sym c.lacks_total.ensures ∙ c.if-lacks_total.false
+
+fits : (c : lts.Else-lacks_total) → let a = c.args in a.at + length (total_line a.kept a.skipped a.trimmed a.hole) ≤ length a.out.now
+fits c = ltb-false _ _ (tested c)
+
+-- there is room for the line feed
+room : (c : lts.After-slice_known-3-1) → c.put_pair-last.result + 1 ≤ length c.put_pair-last.new.0
+room c =
+    let a = c.args in
+    omega (
+      arith,
+      fits c.before.before.before.before.before.before.before.before.before.before.before.before,
+      length-total a.kept a.skipped a.trimmed a.hole,
+      length-pair total_kept and_skipped a.kept a.skipped,
+      length-pair and_trimmed and_hole a.trimmed a.hole,
+    )
+
+pub lacks_total-requires : goal.lacks_total-requires
+lacks_total-requires c = tt
+
+pub returns-then-lacks_total : goal.returns-then-lacks_total
+returns-then-lacks_total c = put-none (sym c.lacks_total.ensures ∙ c.if-lacks_total.true)
+
+pub put_pair-middle-requires : goal.put_pair-middle-requires
+put_pair-middle-requires c = 
+    let a = c.args in
+    omega (arith, fits c.before.before.before, length-total a.kept a.skipped a.trimmed a.hole)
+
+pub put_pair-last-requires : goal.put_pair-last-requires
+put_pair-last-requires c = 
+    let a = c.args in
+    omega (
+      arith,
+      fits c.before.before.before.before.before.before.before.before.before,
+      length-total a.kept a.skipped a.trimmed a.hole,
+      length-pair total_kept and_skipped a.kept a.skipped,
+    )
+
+pub bounds-out-last : goal.bounds-out-last
+bounds-out-last c = omega (arith, room c)
+
+pub overflow_add-result : goal.overflow_add-result
+overflow_add-result c = omega (arith, room c)
+
+pub shape_of-out : goal.shape_of-out
+shape_of-out c = simp length-set (omega arith)
+
+pub returns : goal.returns
+returns c = 
+    let test = c.before.before.before.before in
+    let a = test.args in
+    put_all (tested test)
+    (laid-total a.kept a.skipped a.trimmed a.hole c.put_pair-middle.ensures c.put_pair-last.ensures
+    (laid_as 1 refl refl (one_store _ _ _ (room c))) (fits test))

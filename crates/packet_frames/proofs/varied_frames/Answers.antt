@@ -1,0 +1,61 @@
+-- `packet_frames::varied_frames` meets its contract. Assumes nothing.
+use Prim.Native.Nat.{◌+◌, ◌-◌, ◌≤◌, ◌<◌}
+use native.Mathlib.Omega.{arith}
+use borrow.Author.Rules.{rules}
+use lib.ListN.{length}
+use Rattle.octets.proofs.Tests.{is_below, not-below}
+use Rattle.packet_frames.proofs.CodedLengths.{missing, found}
+use Rattle.packet_frames.proofs.Framing.{Others, last-cut, last-short, last-long, last_fits}
+use Rattle.packet_frames.proofs.varied_frames.Goals as goal
+use Rattle.packet_frames.proofs.varied_frames.Lts as lts
+
+others : (w : lts.In-Value-2)
+    → let a = w.args in
+    let got = w.in-Value.sum-1.given.0 in
+    Others a.s.now a.at a.count a.padding got.0 got.1.0
+others w =
+    let told = found w.args.s.now 80325 w.in-Value.is w.coded_lengths.ensures in
+    record { some = w.requires.some; inside = told.within.inside; read = told.told }
+
+-- the other frames and the padding are there
+room : (c : lts.Else-is_short)
+    →
+    let a = c.args in
+    let got = c.in-Value.sum-1.given.0 in
+    a.padding + got.0 ≤ length a.s.now - got.1.0
+room c = not-below c.is_short.ensures c.if-is_short.false
+
+pub returns-in_default : goal.returns-in_default
+returns-in_default c = 
+    let a = c.args in
+    let none = missing a.s.now 80325 c.in_default.is c.coded_lengths.ensures in
+    record { told = last-cut a.s.now a.at a.count a.padding none; within = tt }
+
+pub overflow_sub-room : goal.overflow_sub-room
+overflow_sub-room c = (others c.before).inside
+
+pub returns-then-is_short : goal.returns-then-is_short
+returns-then-is_short c = 
+    let w = c.before.before.before in
+    let a = w.args in
+    let got = w.in-Value.sum-1.given.0 in
+    let short : length a.s.now - got.1.0 < a.padding + got.0 = is_below c.is_short.ensures c.if-is_short.true in
+    record { told = last-short (others w) (omega arith); within = tt }
+
+pub overflow_sub-room-2 : goal.overflow_sub-room-2
+overflow_sub-room-2 c = omega (arith, room c)
+
+pub overflow_sub-room-3 : goal.overflow_sub-room-3
+overflow_sub-room-3 c = omega (arith, room c)
+
+pub returns-then-room-padding-gt-FRAME_MAX : goal.returns-then-room-padding-gt-FRAME_MAX
+returns-then-room-padding-gt-FRAME_MAX c = 
+    let w = c.before.before.before.before in
+    let fit = room c.before in
+    record { told = last-long (others w) (omega arith) (omega (arith, c.if-room-padding-gt-FRAME_MAX.true)); within = tt }
+
+pub returns : goal.returns
+returns c = 
+    let w = c.before.before.before.before in
+    let fit = room c.before in
+    record { told = last_fits (others w) (omega arith) (omega (arith, c.if-room-padding-gt-FRAME_MAX.false)); within = omega arith }

@@ -1,0 +1,13 @@
+-- `page_crc::short_checksum` meets its contract: with the right tables slicing gives the checksum. Assumes nothing.
+use mathlib.Core.Path.{◌∙◌}
+use borrow.Author.Rules.{rules}
+use lib.Dec.{lit<}
+use Rattle.page_crc_tables.proofs.Entries.{whole_by_halves}
+use Rattle.page_crc.proofs.Slice.{sliced_right}
+use Rattle.page_crc.proofs.short_checksum.Goals as goal
+
+pub returns : goal.returns
+returns c = 
+    c.half_update.ensures
+    ∙ sliced_right _ (whole_by_halves _ c.halves-halves.ensures) c.args.s.now
+    (record { below = λ i. (c.shared_slice_known-1.given i).fits }) 0 (lit< tt)

@@ -1,0 +1,6 @@
+-- `reader::of_state` meets its contract. Assumes nothing.
+use borrow.Author.Rules.{rules}
+use Rattle.reader.proofs.of_state.Goals as goal
+
+pub returns : goal.returns
+returns c = rw (c.tally_from.ensures, c.core_from.ensures)

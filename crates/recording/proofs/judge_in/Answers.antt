@@ -1,0 +1,91 @@
+-- `recording::judge_in` meets its contract. Assumes nothing.
+use Prim.Native.Nat.{◌-◌, ◌<◌}
+use mathlib.Core.Path.{◌≡◌, refl, ◌∙◌}
+use native.Mathlib.Omega.{arith}
+use borrow.Author.Rules.{rules}
+use lib.ListN.{length}
+use Rattle.octets.specs.Octets.{Bytes}
+use Rattle.page_crc.specs.Crc.{page_crc}
+use Rattle.stream.specs.Readings.{Readings, readings}
+use Rattle.stream.specs.Lent.{lent_of}
+use Rattle.recording.specs.declared.Accepted.{Accepted}
+use Rattle.recording.specs.declared.Judged.{Judged}
+use Rattle.recording.specs.declared.Step.TheVariants.{Goes, Ends}
+use Rattle.recording.specs.Judging.{judge_buffer}
+use Rattle.recording.specs.Answers.{told_judged, judge_after, Within}
+use Rattle.recording.proofs.Steps.{step_on, step_ends, from_start}
+use Rattle.recording.proofs.Streams.{room-stays}
+use Rattle.recording.proofs.judge_in.Invariants.{R}
+use Rattle.recording.proofs.judge_in.Goals as goal
+use Rattle.recording.proofs.judge_in.Lts as lts
+
+-- where a step has ended
+module _ (c : lts.After-feed_run invariant_loop decreases_loop) where
+  abbrev at_loop : lts.At-loop-next invariant_loop decreases_loop
+  at_loop = c.before.before.before.before.before.before
+
+  abbrev begun : lts.After-start invariant_loop decreases_loop
+  begun = at_loop.before
+
+  abbrev b : Bytes
+  b = begun.args.buffer.now
+
+  abbrev new : Bytes
+  new = c.feed_run.new.1.1.0
+
+  went : {d : Accepted} → c.feed_run.result ≡ Goes d → (judge_after R b d new ≡ judge_after R b at_loop.loop-next.accepted at_loop.loop-next.carry) × (at_loop.loop-next.accepted.bytes < d.bytes) × Within b d
+  went e = step_on R b at_loop.loop-next.accepted at_loop.loop-next.carry new c.feed_run.ensures e
+
+  ended : {j : Judged} → c.feed_run.result ≡ Ends j → told_judged j ≡ judge_buffer R b
+  ended e =
+      step_ends R b at_loop.loop-next.accepted at_loop.loop-next.carry new c.feed_run.ensures e
+      ∙ at_loop.loop-next.inv.0
+      ∙ from_start R b _ begun.start.result begun.start.ensures
+
+pub loop-next-init : goal.loop-next-init
+loop-next-init c = (refl, record { bytes = omega arith; pages = omega arith; packets = omega arith }, refl, refl, refl, refl, refl)
+
+pub feed_run-requires : goal.feed_run-requires
+feed_run-requires c = 
+    let l = c.loop-next in
+    record {
+      within = l.invariant.1;
+      room = room-stays (lent_of c.args.carry.now c.args.ends.now c.args.lengths.now c.args.kept.now c.args.frames.now) (lent_of l.carry l.ends l.lengths l.auto l.frames) c.requires l.invariant.2 l.invariant.3 l.invariant.4 l.invariant.5 l.invariant.6;
+    }
+
+pub loop-next-smaller : goal.loop-next-smaller
+loop-next-smaller c = 
+    let w = went c.before.before.before.before.before.before.before.before.before.before.before.before.before c.in-Goes.is in
+    omega (arith, w.1, w.2.bytes)
+
+pub loop-next-preserved : goal.loop-next-preserved
+loop-next-preserved c = 
+    let call = c.before.before.before.before.before.before.before.before.before.before.before.before in
+    let inv = call.loop-next.invariant in
+    let w = went call c.in-Goes.is in (
+      w.0 ∙ inv.0,
+      w.2,
+      c.carry-1.given ∙ inv.2,
+      c.ends-1.given ∙ inv.3,
+      c.lengths-1.given ∙ inv.4,
+      c.kept-1.given ∙ inv.5,
+      c.frames-1.given ∙ inv.6,
+    )
+
+pub shape_of-carry-in-Ends : goal.shape_of-carry-in-Ends
+shape_of-carry-in-Ends c = c.carry-1.given ∙ c.loop-next.invariant.2
+
+pub shape_of-ends-in-Ends : goal.shape_of-ends-in-Ends
+shape_of-ends-in-Ends c = c.ends-1.given ∙ c.loop-next.invariant.3
+
+pub shape_of-lengths-in-Ends : goal.shape_of-lengths-in-Ends
+shape_of-lengths-in-Ends c = c.lengths-1.given ∙ c.loop-next.invariant.4
+
+pub shape_of-kept-in-Ends : goal.shape_of-kept-in-Ends
+shape_of-kept-in-Ends c = c.kept-1.given ∙ c.loop-next.invariant.5
+
+pub shape_of-frames-in-Ends : goal.shape_of-frames-in-Ends
+shape_of-frames-in-Ends c = c.frames-1.given ∙ c.loop-next.invariant.6
+
+pub returns-in-Ends : goal.returns-in-Ends
+returns-in-Ends c = ended c.before.before.before.before.before.before.before.before.before.before.before.before.before c.in-Ends.is

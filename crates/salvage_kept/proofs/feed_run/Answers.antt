@@ -1,0 +1,107 @@
+-- `salvage_kept::feed_run` meets its contract. The loop's invariant: the pages so far are fed. Assumes nothing.
+use Rattle.std.proofs.Common.{◌≡◌, suc, ◌-◌, ◌^◌, ◌<◌, length, ◌∙◌, subst, arith, rules}
+use Rattle.stream.specs.Lent.{lent_of}
+use Rattle.salvage_kept.specs.Promises.{Onward}
+use Rattle.salvage_kept.proofs.Running.{Ran, ran_not, nearer, run_over, can_feed, run_on, run_refused}
+use Rattle.salvage_kept.proofs.feed_run.Goals as goal
+use Rattle.salvage_kept.proofs.feed_run.Lts as lts
+
+-- where a turn begins
+abbrev at_loop : lts.After-listed_at-next invariant_loop decreases_loop → lts.At-loop-next invariant_loop decreases_loop
+at_loop c = c.before.before
+
+abbrev start : lts.At-loop-next invariant_loop decreases_loop → lts.Start invariant_loop decreases_loop
+start c = c.before.before.before.before.before.before.before.before.before.before
+
+fits : (c : lts.Start invariant_loop decreases_loop) → length c.args.list.now < 2 ^ 64
+fits c = omega arith
+
+pub loop-next-init : goal.loop-next-init
+loop-next-init c = ran_not _ _ _ _ _ _
+
+pub shape_of-carry-then-index-list : goal.shape_of-carry-then-index-list
+shape_of-carry-then-index-list c = c.loop-next.invariant.alike.carry
+
+pub shape_of-keep-then-index-list : goal.shape_of-keep-then-index-list
+shape_of-keep-then-index-list c = c.loop-next.invariant.alike.keeps
+
+pub shape_of-spare-then-index-list : goal.shape_of-spare-then-index-list
+shape_of-spare-then-index-list c = c.loop-next.invariant.alike.spares
+
+pub shape_of-ends-then-index-list : goal.shape_of-ends-then-index-list
+shape_of-ends-then-index-list c = c.loop-next.invariant.alike.ends
+
+pub shape_of-lengths-then-index-list : goal.shape_of-lengths-then-index-list
+shape_of-lengths-then-index-list c = c.loop-next.invariant.alike.lengths
+
+pub shape_of-kept-then-index-list : goal.shape_of-kept-then-index-list
+shape_of-kept-then-index-list c = c.loop-next.invariant.alike.kept
+
+pub shape_of-frames-then-index-list : goal.shape_of-frames-then-index-list
+shape_of-frames-then-index-list c = c.loop-next.invariant.alike.frames
+
+pub returns-then-index-list : goal.returns-then-index-list
+returns-then-index-list c = 
+    let listed = c.before in
+    let loop = at_loop listed in
+    run_over (start loop).requires loop.loop.inv listed.listed_at-next.ensures c.if-index-list.true
+
+pub feed_next-requires : goal.feed_next-requires
+feed_next-requires c = 
+    let listed = c.before in
+    let loop = at_loop listed in
+    can_feed (start loop).requires loop.loop.inv listed.listed_at-next.ensures (omega (arith, c.if-index-list.false)) (fits (start loop))
+
+pub loop-next-smaller : goal.loop-next-smaller
+loop-next-smaller c = 
+    let listed = c.before in
+    let loop = at_loop listed in
+    let i = listed.listed_at-next.result.index in
+    let after = c.in-Accepted.after in
+    let past : after.now.at ≡ suc i = subst (Onward i) c.in-Accepted.is c.feed_next.ensures.1 in
+    omega (arith, past, nearer (start loop).args.list.now loop.loop.pass.now.at i listed.listed_at-next.ensures.index (omega (arith, c.if-index-list.false)))
+
+pub loop-next-preserved : goal.loop-next-preserved
+loop-next-preserved c = 
+    let listed = c.before in
+    let loop = at_loop listed in
+    run_on (start loop).requires loop.loop.inv listed.listed_at-next.ensures (omega (arith, c.if-index-list.false)) c.feed_next.result _ _ _
+    c.feed_next.ensures.0
+    (record {
+      carry = c.carry-1.given;
+      keeps = c.keep-1.given;
+      spares = c.spare-1.given;
+      ends = c.ends-1.given;
+      lengths = c.lengths-1.given;
+      kept = c.kept-1.given;
+      frames = c.frames-1.given;
+    })
+    _ c.in-Accepted.is
+
+pub shape_of-carry-in-Refused : goal.shape_of-carry-in-Refused
+shape_of-carry-in-Refused c = c.carry-1.given ∙ c.loop-next.invariant.alike.carry
+
+pub shape_of-keep-in-Refused : goal.shape_of-keep-in-Refused
+shape_of-keep-in-Refused c = c.keep-1.given ∙ c.loop-next.invariant.alike.keeps
+
+pub shape_of-spare-in-Refused : goal.shape_of-spare-in-Refused
+shape_of-spare-in-Refused c = c.spare-1.given ∙ c.loop-next.invariant.alike.spares
+
+pub shape_of-ends-in-Refused : goal.shape_of-ends-in-Refused
+shape_of-ends-in-Refused c = c.ends-1.given ∙ c.loop-next.invariant.alike.ends
+
+pub shape_of-lengths-in-Refused : goal.shape_of-lengths-in-Refused
+shape_of-lengths-in-Refused c = c.lengths-1.given ∙ c.loop-next.invariant.alike.lengths
+
+pub shape_of-kept-in-Refused : goal.shape_of-kept-in-Refused
+shape_of-kept-in-Refused c = c.kept-1.given ∙ c.loop-next.invariant.alike.kept
+
+pub shape_of-frames-in-Refused : goal.shape_of-frames-in-Refused
+shape_of-frames-in-Refused c = c.frames-1.given ∙ c.loop-next.invariant.alike.frames
+
+pub returns-in-Refused : goal.returns-in-Refused
+returns-in-Refused c = 
+    let listed = c.before in
+    let loop = at_loop listed in
+    run_refused (start loop).requires loop.loop.inv listed.listed_at-next.ensures (omega (arith, c.if-index-list.false)) c.feed_next.result
+    c.feed_next.new.1.1.1.0 c.feed_next.new.1.1.1.1.0 c.feed_next.ensures.0 c.in-Refused.is

@@ -1,0 +1,14 @@
+-- `tags_comment::all_within` meets its contract. The loop's invariant: what is left decides. Assumes nothing.
+use mathlib.Core.Path.{◌≡◌, refl, sym, ◌∙◌}
+use Prim.Native.Nat.{◌-◌, ◌≤◌}
+use native.Mathlib.Omega.{arith}
+use lib.ListN.{length, drop, drop_of_length-le}
+use Rattle.tags_comment.specs.Names.{all_within}
+use Rattle.tags_comment.proofs.Within.{too_low, too_high, within}
+use Rattle.tags_comment.proofs.all_within.Given as goal
+
+abbrev pub invariant-loop-i : goal.invariant-loop-i
+invariant-loop-i l = (all_within l.low l.high (drop l.i l.s) ≡ all_within l.low l.high l.s) × (l.i ≤ length l.s)
+
+abbrev pub decreases-loop-i : goal.decreases-loop-i
+decreases-loop-i l = length l.s - l.i

@@ -1,0 +1,8 @@
+-- `tags_parts::vendor` meets its contract. Assumes nothing.
+use mathlib.Core.Path.{ap, ◌∙◌}
+use borrow.Author.Rules.{rules}
+use Rattle.tags_reader.specs.Reading.{part_in}
+use Rattle.tags_parts.proofs.vendor.Goals as goal
+
+pub returns : goal.returns
+returns c = c.part_in.ensures ∙ ap (part_in c.args.b.now) c.find_vendor.ensures

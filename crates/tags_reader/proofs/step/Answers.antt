@@ -1,0 +1,43 @@
+-- `tags_reader::step` meets its contract. Assumes nothing.
+use mathlib.Core.Path.{sym}
+use Prim.Native.Nat.{◌≤◌}
+use borrow.Author.Rules.{rules}
+use lib.ListN.{length}
+use Rattle.octets.proofs.Tests.{failed, held}
+use Rattle.tags_layout.specs.Layout.{next_place}
+use Rattle.tags_layout.proofs.Fitting.{inside}
+use Rattle.tags_reader.proofs.Walking.{no_text, stops, goes_on}
+use Rattle.tags_reader.proofs.step.Goals as goal
+use Rattle.tags_reader.proofs.step.Lts as lts
+
+-- the text is inside, where the test was held
+within : (c : lts.Else-not-fits_at) → next_place c.args.b.now c.args.at ≤ length c.args.b.now
+within c = let a = c.args in inside a.b.now a.at (held c.fits_at.ensures c.if-not-fits_at.false)
+
+pub returns-then-not-fits_at : goal.returns-then-not-fits_at
+returns-then-not-fits_at c = 
+    let a = c.args in
+    sym (no_text a.b.now a.at a.track a.album (failed c.fits_at.ensures c.if-not-fits_at.true))
+
+pub overflow_add-start : goal.overflow_add-start
+overflow_add-start c = let w = within c.before in search rules
+
+pub overflow_add-next : goal.overflow_add-next
+overflow_add-next c = let w = within c.before in search rules
+
+pub returns-in_default : goal.returns-in_default
+returns-in_default c = 
+    let a = c.args in
+    sym
+    (stops a.b.now a.at a.track a.album c.number32-size.result c.judge.result
+    (held c.fits_at.ensures c.if-not-fits_at.false) c.number32-size.ensures
+    (rw c.part_of.ensures at c.judge.ensures) c.in_default.is)
+
+pub returns : goal.returns
+returns c = 
+    let known = c.in-Seen.t-1.given in
+    let a = c.args in
+    sym
+    (goes_on a.b.now a.at a.track a.album c.number32-size.result c.judge.result
+    (held c.fits_at.ensures c.if-not-fits_at.false) c.number32-size.ensures
+    (rw c.part_of.ensures at c.judge.ensures) known.0.0 known.0.1.0 known.1)

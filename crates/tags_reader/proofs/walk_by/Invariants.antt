@@ -1,0 +1,15 @@
+-- `tags_reader::walk_by` meets its contract. The loop's invariant: what is left of the walk decides. Assumes nothing.
+use mathlib.Core.Path.{◌≡◌, sym, ap, ◌∙◌}
+use Prim.Native.Nat.{◌+◌, ◌-◌, ◌≤◌}
+use native.Mathlib.Omega.{arith}
+use borrow.Author.Rules.{rules}
+use Rattle.tags_reader.specs.declared.Walk.TheVariants.{At}
+use Rattle.tags_reader.specs.Code.{walked}
+use Rattle.tags_reader.proofs.Walking.{walked-wrong, walk_begin, walk_more, walk_done}
+use Rattle.tags_reader.proofs.walk_by.Given as goal
+
+abbrev pub invariant-loop-i : goal.invariant-loop-i
+invariant-loop-i l = (walked l.b (l.n - l.i) (At l.at l.track l.album) ≡ walked l.b l.n (At l.start l.t l.a)) × (l.i ≤ l.n)
+
+abbrev pub decreases-loop-i : goal.decreases-loop-i
+decreases-loop-i l = l.n - l.i

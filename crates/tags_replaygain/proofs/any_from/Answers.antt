@@ -1,0 +1,50 @@
+-- `tags_replaygain::any_from` meets its contract. The loop's invariant: what is left of the comments decides. Assumes nothing.
+use Prim.Native.Nat.{◌-◌}
+use mathlib.Core.Path.{sym, ap, ◌∙◌}
+use native.Mathlib.Omega.{arith}
+use borrow.Author.Rules.{rules}
+use Rattle.tags_replaygain.specs.ReplayGain.{is_replay_gain}
+use Rattle.tags_replaygain.proofs.Comments.{Left, left-first, none_left, Turn, turn}
+use Rattle.tags_replaygain.proofs.any_from.Goals as goal
+use Rattle.tags_replaygain.proofs.any_from.Lts as lts
+
+-- the text that a turn is about
+in_turn : (c : lts.After-number32-size invariant_loop decreases_loop)
+    → (let a = c.args in let l = c.loop-i in Turn a.b.now a.n a.start l.i l.at c.number32-size.result)
+in_turn c =
+    let l = c.loop-i in
+    let a = c.args in
+    turn a.b.now a.n a.start l.i l.at c.number32-size.result l.invariant c.loop-i-test.true c.number32-size.ensures
+
+pub loop-i-init : goal.loop-i-init
+loop-i-init c = 
+    let a = c.args in
+    left-first a.b.now a.n a.start c.requires
+
+pub overflow_add-text : goal.overflow_add-text
+overflow_add-text c = let w = (in_turn c).inside in search rules
+
+pub returns-then-is_replaygain : goal.returns-then-is_replaygain
+returns-then-is_replaygain c = 
+    (in_turn c.before.before).found
+    (sym (c.is_replaygain.ensures ∙ ap is_replay_gain c.part_of.ensures) ∙ c.if-is_replaygain.true)
+
+pub overflow_add-at : goal.overflow_add-at
+overflow_add-at c = let w = (in_turn c.before.before.before).inside in search rules
+
+pub overflow_add-i : goal.overflow_add-i
+overflow_add-i c = omega arith
+
+pub loop-i-smaller : goal.loop-i-smaller
+loop-i-smaller c = omega arith
+
+pub loop-i-preserved : goal.loop-i-preserved
+loop-i-preserved c = 
+    (in_turn c.before.before).goes_on
+    (sym (c.is_replaygain.ensures ∙ ap is_replay_gain c.part_of.ensures) ∙ c.if-is_replaygain.false)
+
+pub returns : goal.returns
+returns c = 
+    let l = c.loop-i in
+    let a = c.args in
+    none_left a.b.now a.n a.start l.i l.at l.invariant c.loop-i-test.false

@@ -1,0 +1,21 @@
+-- `tags_writer::put_comments` meets its contract. The loop's invariant: what is left to copy makes the whole. Assumes nothing.
+use mathlib.Core.Path.{◌≡◌, refl, ap, ◌∙◌}
+use mathlib.Core.List.{List}
+use Prim.Native.Nat.{ℕ, ◌+◌, ◌-◌, ◌*◌, ◌≤◌}
+use native.Mathlib.Omega.{arith}
+use borrow.Author.Rules.{rules}
+use lib.ListN.{length, get_or, take, drop}
+use Rattle.octets.specs.Octets.{Bytes, total, copied}
+use Rattle.octets.proofs.Copying.{length-copied}
+use Rattle.tags_reader.specs.Packet.{text_bytes, comments_bytes}
+use Rattle.tags_writer.specs.Writing.{cut_by}
+use Rattle.tags_writer.proofs.Laying.{all-copied, comment-inside, comment-length, rest_sum, comments-copied}
+use Rattle.tags_writer.proofs.put_comments.Given as goal
+
+abbrev pub invariant-loop-i : goal.invariant-loop-i
+invariant-loop-i l = (copied l.out l.at (comments_bytes (cut_by (drop l.i l.lengths) (drop l.from l.text))) ≡ copied l.initial.out l.start (comments_bytes (cut_by l.lengths l.text)))
+    × (total (drop l.i l.lengths) ≡ length l.text - l.from) × (l.from ≤ length l.text) × (l.i ≤ length l.lengths)
+    × (l.at + 4 * (length l.lengths - l.i) + (length l.text - l.from) ≤ length l.out) × (length l.out ≡ length l.initial.out)
+
+abbrev pub decreases-loop-i : goal.decreases-loop-i
+decreases-loop-i l = length l.lengths - l.i

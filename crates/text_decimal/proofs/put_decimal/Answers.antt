@@ -1,0 +1,33 @@
+-- `text_decimal::put_decimal` meets its contract. Assumes nothing.
+use mathlib.Core.Path.{sym, ◌∙◌}
+use Prim.Native.Nat.{◌+◌, ◌≤◌}
+use native.Mathlib.Omega.{arith}
+use borrow.Author.Rules.{rules}
+use borrow.Author.Tests.{ltb-true, ltb-false}
+use lib.ListN.{length}
+use Rattle.text_put.proofs.Putting.{put-laid, put-nothing}
+use Rattle.text_decimal.specs.Decimal.{decimal}
+use Rattle.text_decimal.proofs.put_decimal.Goals as goal
+use Rattle.text_decimal.proofs.put_decimal.Lts as lts
+
+-- the digits fit
+fits : (c : lts.Else-lacks_digits) → let a = c.args in a.at + length (decimal a.x) ≤ length a.out.now
+fits c =
+    let a = c.args in
+    let test = ltb-false (length a.out.now) (a.at + (length (decimal a.x) + 0)) (sym c.lacks_digits.ensures ∙ c.if-lacks_digits.false) in
+    omega arith
+
+pub lacks_digits-requires : goal.lacks_digits-requires
+lacks_digits-requires c = omega arith
+
+pub returns-then-lacks_digits : goal.returns-then-lacks_digits
+returns-then-lacks_digits c = 
+    let a = c.args in
+    let short = ltb-true (length a.out.now) (a.at + (length (decimal a.x) + 0)) (sym c.lacks_digits.ensures ∙ c.if-lacks_digits.true) in
+    put-nothing (omega arith)
+
+pub lay_decimal-requires : goal.lay_decimal-requires
+lay_decimal-requires c = fits c.before
+
+pub returns : goal.returns
+returns c = put-laid (fits c.before.before.before.before) c.lay_decimal.ensures
