@@ -1,9 +1,9 @@
 -- Tests on numbers: from what calls gave to what their promises name, and a test made of two. Assumes nothing.
 use mathlib.Core.Path.{◌≡◌, refl, ◌∙◌, sym}
-use mathlib.Core.Bool.{Bool, true, false, not, ◌&&◌}
+use mathlib.Core.Bool.{Bool, true, false, ◌&&◌}
 use Prim.Native.Nat.{ℕ, ◌≤◌, ◌<◌}
 use native.Mathlib.Omega.{arith}
-use borrow.Author.Tests.{eq-eqb, ne_eqb, eqb-true, ltb-true, ltb-false, not-true, not-false}
+use borrow.Author.Tests.{eq-eqb, ne_eqb, eqb-true, ltb-true, ltb-false}
 use lib.Dec.{eqb, ltb}
 
 -- two numbers that calls gave
@@ -27,12 +27,12 @@ is_below {a = a} {b = b} e h = ltb-true a b (sym e ∙ h)
 pub not-below : {r : Bool} {a b : ℕ} → r ≡ ltb a b → r ≡ false → b ≤ a
 not-below {a = a} {b = b} e h = ltb-false a b (sym e ∙ h)
 
--- a call's answer tested by `if !f(x)`
-pub failed : {r t : Bool} → r ≡ t → not r ≡ true → t ≡ false
-failed {r} e h = sym e ∙ not-true r h
+-- a call's answer that was tested
+pub failed : {r t : Bool} → r ≡ t → r ≡ false → t ≡ false
+failed e h = sym e ∙ h
 
-pub held : {r t : Bool} → r ≡ t → not r ≡ false → t ≡ true
-held {r} e h = sym e ∙ not-false r h
+pub held : {r t : Bool} → r ≡ t → r ≡ true → t ≡ true
+held e h = sym e ∙ h
 
 pub both : (a b : Bool) → a && b ≡ true → (a ≡ true) × (b ≡ true)
 both true b e = (refl, e)

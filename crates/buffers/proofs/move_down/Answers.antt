@@ -6,10 +6,14 @@ use lib.ListN.{length}
 use Rattle.buffers.proofs.Moving.{Moving, moving_starts, moving_on, moving_ends, same_size}
 use Rattle.buffers.proofs.move_down.Goals as goal
 use Rattle.buffers.proofs.move_down.Lts as lts
+use Rattle.buffers.proofs.move_down.Tie as tie
+
+abbrev At-loop-i : Type 0
+At-loop-i = lts.At-loop tie.the-claims tie.handed_pre tie.handed_post goal.the-invariant-loop-i goal.the-decreases-loop-i
 
 -- where a byte is moved
-module _ (c : lts.After-slice_known-in-loop-i-1 invariant_loop decreases_loop) where
-  abbrev here : lts.At-loop-i invariant_loop decreases_loop
+module _ (c : goal.After-slice_known-in-loop-i-1) where
+  abbrev here : At-loop-i
   here = c.before.before
 
   inside : here.least-end.result ≤ length here.args.buffer.now

@@ -12,12 +12,12 @@ use Rattle.check_stream.proofs.Finding.{Storing, walk_begun, storing_begun, stor
 use Rattle.check_stream.proofs.find_in.Goals as goal
 
 pub loop-walk-init : goal.loop-walk-init
-loop-walk-init c = 
+loop-walk-init c =
     let a = c.args in
     (walk_begun a.stream.now c.begin-walk.result a.carry.now c.begin-walk.ensures, storing_begun a.stream.now c.begin-walk.result a.kinds.now a.pages.now c.begin-walk.ensures, refl, refl, refl, refl, refl)
 
 pub turn-walk-requires : goal.turn-walk-requires
-turn-walk-requires c = 
+turn-walk-requires c =
     let l = c.loop-walk in
     let a = c.args in
     record {
@@ -28,17 +28,17 @@ turn-walk-requires c =
     }
 
 pub put_found-count-requires : goal.put_found-count-requires
-put_found-count-requires c = 
+put_found-count-requires c =
     let t = c.turn-walk.ensures in
     omega (arith, c.loop-walk.invariant.1.few, t.page, t.walked.few, t.walked.begins.inside, c.well_formed.0)
 
 pub loop-walk-smaller : goal.loop-walk-smaller
-loop-walk-smaller c = 
+loop-walk-smaller c =
     let t = c.turn-walk.ensures in
     omega (arith, t.onward, t.walked.begins.inside)
 
 pub loop-walk-preserved : goal.loop-walk-preserved
-loop-walk-preserved c = 
+loop-walk-preserved c =
     let a = c.args in
     let l = c.loop-walk in
     let turn = c.turn-walk in
@@ -75,7 +75,7 @@ pub shape_of-frames : goal.shape_of-frames
 shape_of-frames c = c.loop-walk.invariant.6
 
 pub returns : goal.returns
-returns c = 
+returns c =
     let l = c.loop-walk in
     let a = c.args in
     storing_end a.stream.now l.walk l.carry l.count a.kinds.now l.kinds a.pages.now l.pages c.requires.tagged.headed.accepted

@@ -5,7 +5,7 @@ use borrow.Author.Rules.{rules}
 use Rattle.check_stream.proofs.put_finding.Goals as goal
 
 pub returns-then-there : goal.returns-then-there
-returns-then-there c = 
+returns-then-there c =
     rw c.if-there.true
     (record { next = refl; most = omega arith; kind = c.store_at.ensures; page = c.store_at-then-there.ensures })
 

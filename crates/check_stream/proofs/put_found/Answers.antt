@@ -5,7 +5,7 @@ use Rattle.check_stream.proofs.Storing.{put_both}
 use Rattle.check_stream.proofs.put_found.Goals as goal
 
 pub returns : goal.returns
-returns c = 
+returns c =
     let a = c.args in
     put_both {A = finding_if a.found.unfinished 1 a.page} c.put_finding-at.ensures
     (put_both {A = finding_if a.found.endless 2 a.page} c.put_finding-at-2.ensures

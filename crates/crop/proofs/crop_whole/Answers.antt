@@ -18,70 +18,70 @@ pub is_start-requires : goal.is_start-requires
 is_start-requires c = is-placed _ _ _ _ c.headers_end-headers.ensures c.place_of-at.ensures
 
 pub returns-then-not-is_start : goal.returns-then-not-is_start
-returns-then-not-is_start c = 
+returns-then-not-is_start c =
     let a = c.args in
     crop-told _ _ (refuses (number_of NoCropStart)) a.out.now
-    (no_start-told a.stream.now a.page _ (sym c.is_start.ensures ∙ not-true c.is_start.result c.if-not-is_start.true))
+    (no_start-told a.stream.now a.page _ (sym c.is_start.ensures ∙ c.if-not-is_start.true))
 
 pub overflow_sub-size : goal.overflow_sub-size
-overflow_sub-size c = 
+overflow_sub-size c =
     let a = c.args in
     let o : Octets a.stream.now = record { below = λ i. (c.shared_slice_known-1.given i).fits } in
     let is-start : is_start (pages_of a.stream.now) a.page ≡ true =
-    sym c.is_start.ensures ∙ not-false c.is_start.result c.if-not-is_start.false in
+    sym c.is_start.ensures ∙ c.if-not-is_start.false in
     let found = found_inside a.stream.now a.page _ _ c.headers_end-headers.ensures c.place_of-at.ensures o c.requires is-start in
     found.1
 
 pub overflow_add-size : goal.overflow_add-size
-overflow_add-size c = 
+overflow_add-size c =
     let a = c.args in
     let o : Octets a.stream.now = record { below = λ i. (c.shared_slice_known-1.given i).fits } in
     let is-start : is_start (pages_of a.stream.now) a.page ≡ true =
-    sym c.is_start.ensures ∙ not-false c.is_start.result c.if-not-is_start.false in
+    sym c.is_start.ensures ∙ c.if-not-is_start.false in
     let found = found_inside a.stream.now a.page _ _ c.headers_end-headers.ensures c.place_of-at.ensures o c.requires is-start in
     omega (arith, found.0)
 
 pub returns-then-out-size : goal.returns-then-out-size
-returns-then-out-size c = 
+returns-then-out-size c =
     let a = c.args in
     let o : Octets a.stream.now = record { below = λ i. (c.shared_slice_known-1.given i).fits } in
     let is-start : is_start (pages_of a.stream.now) a.page ≡ true =
-    sym c.is_start.ensures ∙ not-false c.is_start.result c.if-not-is_start.false in
+    sym c.is_start.ensures ∙ c.if-not-is_start.false in
     let found = found_inside a.stream.now a.page _ _ c.headers_end-headers.ensures c.place_of-at.ensures o c.requires is-start in
     found-short a.stream.now a.page _ _ c.headers_end-headers.ensures c.place_of-at.ensures o c.requires is-start a.out.now (omega arith)
 
 pub overflow_sub-back : goal.overflow_sub-back
-overflow_sub-back c = 
+overflow_sub-back c =
     let a = c.args in
     let o : Octets a.stream.now = record { below = λ i. (c.shared_slice_known-1.given i).fits } in
     let is-start : is_start (pages_of a.stream.now) a.page ≡ true =
-    sym c.is_start.ensures ∙ not-false c.is_start.result c.if-not-is_start.false in
+    sym c.is_start.ensures ∙ c.if-not-is_start.false in
     let found = found_inside a.stream.now a.page _ _ c.headers_end-headers.ensures c.place_of-at.ensures o c.requires is-start in
     found.2
 
 pub slice_bounds-copy_at-end : goal.slice_bounds-copy_at-end
-slice_bounds-copy_at-end c = 
+slice_bounds-copy_at-end c =
     let a = c.args in
     let o : Octets a.stream.now = record { below = λ i. (c.shared_slice_known-1.given i).fits } in
     let is-start : is_start (pages_of a.stream.now) a.page ≡ true =
-    sym c.is_start.ensures ∙ not-false c.is_start.result c.if-not-is_start.false in
+    sym c.is_start.ensures ∙ c.if-not-is_start.false in
     let found = found_inside a.stream.now a.page _ _ c.headers_end-headers.ensures c.place_of-at.ensures o c.requires is-start in
     sym (length-take-le _ a.stream.now found.0)
 
 pub put_pages-requires : goal.put_pages-requires
-put_pages-requires c = 
+put_pages-requires c =
     let a = c.args in
     let o : Octets a.stream.now = record { below = λ i. (c.shared_slice_known-1.given i).fits } in
     let is-start : is_start (pages_of a.stream.now) a.page ≡ true =
-    sym c.is_start.ensures ∙ not-false c.is_start.result c.if-not-is_start.false in
+    sym c.is_start.ensures ∙ c.if-not-is_start.false in
     let found = found_inside a.stream.now a.page _ _ c.headers_end-headers.ensures c.place_of-at.ensures o c.requires is-start in
     found-room a.stream.now a.page _ _ c.headers_end-headers.ensures c.place_of-at.ensures o c.requires is-start a.out.now _ (omega (arith, c.if-out-size.false)) c.copy_at.ensures
 
 pub returns : goal.returns
-returns c = 
+returns c =
     let a = c.args in
     let o : Octets a.stream.now = record { below = λ i. (c.shared_slice_known-1.given i).fits } in
     let is-start : is_start (pages_of a.stream.now) a.page ≡ true =
-    sym c.is_start.ensures ∙ not-false c.is_start.result c.if-not-is_start.false in
+    sym c.is_start.ensures ∙ c.if-not-is_start.false in
     let found = found_inside a.stream.now a.page _ _ c.headers_end-headers.ensures c.place_of-at.ensures o c.requires is-start in
     found-put a.stream.now a.page _ _ c.headers_end-headers.ensures c.place_of-at.ensures o c.requires is-start a.out.now _ _ _ (omega (arith, c.if-out-size.false)) refl c.copy_at.ensures c.put_pages.ensures

@@ -15,6 +15,6 @@ pub returns-then-at-stream : goal.returns-then-at-stream
 returns-then-at-stream c = past_end _ _ _ _ c.requires (omega arith)
 
 pub returns : goal.returns
-returns c = 
+returns c =
     c.may_begin.ensures ∙ ap (λ (p : Bytes). may_begin (page_of p)) c.page_at.ensures
     ∙ at_audio _ _ _ _ c.requires (omega arith) (omega arith)

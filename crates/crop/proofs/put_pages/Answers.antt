@@ -14,22 +14,22 @@ pub slice_bounds-write_back-count : goal.slice_bounds-write_back-count
 slice_bounds-write_back-count c = let at = c.loop-at in omega (arith, at.invariant.room)
 
 pub overflow_add-at : goal.overflow_add-at
-overflow_add-at c = 
+overflow_add-at c =
     let o : Octets c.args.stream.now = record { below = λ i. (c.shared_slice_known-1.given i).fits } in
     omega (arith, (nearer _ _ _ _ _ _ _ _ c.loop-at.invariant o c.requires.accepted (omega arith) _ c.page_at-page.ensures).1)
 
 pub overflow_add-put : goal.overflow_add-put
-overflow_add-put c = 
+overflow_add-put c =
     let o : Octets c.args.stream.now = record { below = λ i. (c.shared_slice_known-1.given i).fits } in
     omega (arith, fits _ _ _ _ _ _ _ _ c.loop-at.invariant o c.requires.accepted (omega arith) _ c.page_at-page.ensures)
 
 pub loop-at-smaller : goal.loop-at-smaller
-loop-at-smaller c = 
+loop-at-smaller c =
     let o : Octets c.args.stream.now = record { below = λ i. (c.shared_slice_known-1.given i).fits } in
     omega (arith, (nearer _ _ _ _ _ _ _ _ c.loop-at.invariant o c.requires.accepted (omega arith) _ c.page_at-page.ensures).0)
 
 pub loop-at-preserved : goal.loop-at-preserved
-loop-at-preserved c = 
+loop-at-preserved c =
     let o : Octets c.args.stream.now = record { below = λ i. (c.shared_slice_known-1.given i).fits } in
     turned _ _ _ _ _ _ _ _ c.loop-at.invariant o c.requires.accepted (omega arith) _ c.page_at-page.ensures
     _ _ c.write_back.ensures

@@ -16,7 +16,7 @@ use Rattle.crop_start.proofs.Finding.{walk_begun, best-at_end}
 use Rattle.crop_start.proofs.find_in.Goals as goal
 
 pub loop-walk-init : goal.loop-walk-init
-loop-walk-init c = 
+loop-walk-init c =
     let a = c.args in
     (walk_begun a.stream.now a.position c.start.result a.carry.now c.requires.accepted c.start.ensures, omega arith, refl, refl, refl, refl, refl)
 
@@ -36,14 +36,14 @@ pub shape_of-frames-then-walk-stream : goal.shape_of-frames-then-walk-stream
 shape_of-frames-then-walk-stream c = c.loop-walk.invariant.6
 
 pub returns-then-walk-stream : goal.returns-then-walk-stream
-returns-then-walk-stream c = 
+returns-then-walk-stream c =
     let a = c.args in
     best-at_end a.stream.now a.position c.loop-walk.walk c.loop-walk.carry (a.last + 1) c.loop-walk.invariant.0 c.if-walk-stream.true c.loop-walk.invariant.1
 
 pub turn-walk-requires : goal.turn-walk-requires
-turn-walk-requires c = 
+turn-walk-requires c =
     let l = c.loop-walk in
-    let headed = c.before.before in
+    let headed = c.before.before.before in
     let a = c.args in
     record {
       walked = l.invariant.0;
@@ -53,12 +53,12 @@ turn-walk-requires c =
     }
 
 pub loop-walk-smaller : goal.loop-walk-smaller
-loop-walk-smaller c = 
+loop-walk-smaller c =
     let t = c.turn-walk.ensures in
     omega (arith, t.onward, t.walked.begins.inside)
 
 pub loop-walk-preserved : goal.loop-walk-preserved
-loop-walk-preserved c = 
+loop-walk-preserved c =
     let t = c.turn-walk.ensures in
     let inv = c.loop-walk.invariant in (
       t.walked,
@@ -86,7 +86,7 @@ pub shape_of-frames : goal.shape_of-frames
 shape_of-frames c = c.loop-walk.invariant.6
 
 pub returns : goal.returns
-returns c = 
+returns c =
     let a = c.args in
     let all : c.loop-walk.walk.page ≡ a.last + 1 = omega (arith, c.loop-walk.invariant.1, c.loop-walk-test.false) in
     c.loop-walk.invariant.0.best ∙ ap (best_start (readings page_crc) (pages_of a.stream.now) a.position) all

@@ -11,7 +11,7 @@ pub returns-then-packets-eq0 : goal.returns-then-packets-eq0
 returns-then-packets-eq0 c = rw c.if-packets-eq0.true
 
 pub returns-then-ends-lengths : goal.returns-then-ends-lengths
-returns-then-ends-lengths c = 
+returns-then-ends-lengths c =
     let a = c.args in
     let less : get_or a.ends.now 0 0 - get_or a.lengths.now 0 0 ≡ 0 = omega arith in
     rw (ne_eqb a.packets 0 c.if-packets-eq0.false, less)

@@ -18,17 +18,17 @@ and-true true = refl
 and-true false = refl
 
 pub returns-then-number-headers : goal.returns-then-number-headers
-returns-then-number-headers c = 
+returns-then-number-headers c =
     let a = c.args in
     rw (lt-leb a.headers a.number c.if-number-headers.true)
 
 pub returns-then-start-position : goal.returns-then-start-position
-returns-then-start-position c = 
+returns-then-start-position c =
     let a = c.args in
     rw (lt-leb a.start a.position c.if-start-position.true) (sym (never (leb a.headers a.number) (may_begin (page_of a.page.now))))
 
 pub returns : goal.returns
-returns c = 
+returns c =
     let a = c.args in
     rw (le-leb a.headers a.number c.if-number-headers.false, le-leb a.start a.position c.if-start-position.false)
     (c.may_begin.ensures ∙ sym (and-true (may_begin (page_of a.page.now))))

@@ -16,10 +16,17 @@ use Rattle.reader.specs.Answers.{known_as, told_fed}
 use Rattle.crop_start.proofs.Turning.{inside, never_refused, turned, room_for_one}
 use Rattle.crop_start.proofs.turn.Goals as goal
 use Rattle.crop_start.proofs.turn.Lts as lts
+use Rattle.crop_start.proofs.turn.Tie as tie
+
+abbrev After-feed : Type 0
+After-feed = lts.After-feed tie.the-claims tie.handed_pre tie.handed_post
+
+abbrev Start : Type 0
+Start = lts.Start tie.the-claims tie.handed_pre tie.handed_post
 
 -- where the page has been fed
-module _ (c : lts.After-feed) where
-  abbrev begun : lts.Start
+module _ (c : After-feed) where
+  abbrev begun : Start
   begun = c.before.before.before.before.before.before.before.before.before.before.before.before.before
 
   abbrev b : Bytes
@@ -47,17 +54,17 @@ module _ (c : lts.After-feed) where
   refused {why} e = never_refused b begun.args.headers begun.args.position begun.args.walk lent left page begun.requires c.page_at-page.ensures why (fed e)
 
 pub first_start-start-requires : goal.first_start-start-requires
-first_start-start-requires c = 
-    let call = c.before.before.before.before.before.before.before.before.before.before.before.before.before.before.before in
+first_start-start-requires c =
+    let call = c.before.before.before.before.before.before.before.before.before.before.before.before.before.before.before.before in
     room_for_one (lent call) (left call).ends (left call).lengths (begun call).requires.room c.ends-1.given c.lengths-1.given
 
 pub overflow_add-result : goal.overflow_add-result
-overflow_add-result c = 
+overflow_add-result c =
     omega (arith, c.requires.more, c.requires.walked.few, c.well_formed.1.0)
 
 pub overflow_add-result-in-Accepted : goal.overflow_add-result-in-Accepted
-overflow_add-result-in-Accepted c = 
-    let call = c.before.before.before.before.before.before.before.before.before.before.before.before.before.before.before.before.before.before.before in
+overflow_add-result-in-Accepted c =
+    let call = c.before.before.before.before.before.before.before.before.before.before.before.before.before.before.before.before.before.before.before.before in
     let start = begun call in
     omega (arith, lies_inside call, start.good.1.0)
 
@@ -77,12 +84,12 @@ pub shape_of-frames-in-Accepted : goal.shape_of-frames-in-Accepted
 shape_of-frames-in-Accepted c = c.frames-1.given
 
 pub returns-in-Accepted : goal.returns-in-Accepted
-returns-in-Accepted c = 
-    let call = c.before.before.before.before.before.before.before.before.before.before.before.before.before.before.before.before.before.before.before.before in
+returns-in-Accepted c =
+    let call = c.before.before.before.before.before.before.before.before.before.before.before.before.before.before.before.before.before.before.before.before.before in
     let start = begun call in
     turned (b call) start.args.headers start.args.position start.args.walk (lent call) (left call) (page call) start.pre c.page_at-page.ensures
     c.in-Accepted.next c.in-Accepted.counts (octets call) (fed call c.in-Accepted.is) c.first_start-start.result c.may_start-holds.result
     c.better.result c.first_start-start.ensures c.may_start-holds.ensures c.better.ensures
 
 pub returns-in-Refused : goal.returns-in-Refused
-returns-in-Refused c = absurd (refused c.before.before.before.before.before.before.before.before.before.before.before.before c.in-Refused.is)
+returns-in-Refused c = absurd (refused c.before.before.before.before.before.before.before.before.before.before.before.before.before c.in-Refused.is)

@@ -6,9 +6,9 @@ use Rattle.embulgri.proofs.Answers.{answered, refused}
 use Rattle.embulgri.proofs.embulgri_clock_add.Goals as goal
 
 pub returns-in-Clock : goal.returns-in-Clock
-returns-in-Clock c = 
+returns-in-Clock c =
     answered c.add-added.ensures (ap told_added c.in-Clock.is)
 
 pub returns-in-Refused : goal.returns-in-Refused
-returns-in-Refused c = 
+returns-in-Refused c =
     refused c.add-added.ensures (ap told_added c.in-Refused.is) c.number.ensures

@@ -15,11 +15,11 @@ abbrev numbers_told : PacketRead → Told (List ℕ)
 numbers_told r = retold packet_numbers (told_packet r)
 
 pub returns-in-Legal : goal.returns-in-Legal
-returns-in-Legal c = 
+returns-in-Legal c =
     rw c.packet_numbers.ensures
     (answered (ap (retold packet_numbers) c.read_packet-read.ensures) (ap numbers_told c.in-Legal.is))
 
 pub returns-in-Refused : goal.returns-in-Refused
-returns-in-Refused c = 
+returns-in-Refused c =
     refused (ap (retold packet_numbers) c.read_packet-read.ensures) (ap numbers_told c.in-Refused.is)
     c.number.ensures

@@ -4,17 +4,17 @@ use Rattle.embulgri.proofs.Answers.{page-written, page_unwritten, flags-refused}
 use Rattle.embulgri.proofs.embulgri_page_write.Goals as goal
 
 pub returns-then-flags-gt7 : goal.returns-then-flags-gt7
-returns-then-flags-gt7 c = 
+returns-then-flags-gt7 c =
     let a = c.args in
     rw c.number.ensures (flags-refused _ a.lacing.now a.body.now a.out.now a.written.now c.if-flags-gt7.true)
 
 pub returns-in-Bytes : goal.returns-in-Bytes
-returns-in-Bytes c = 
+returns-in-Bytes c =
     let a = c.args in
     page-written _ a.lacing.now a.body.now a.out.now a.written.now c.write_page-wrote.ensures c.in-Bytes.is
 
 pub returns-in-Refused : goal.returns-in-Refused
-returns-in-Refused c = 
+returns-in-Refused c =
     let a = c.args in
     page_unwritten _ a.lacing.now a.body.now a.out.now a.written.now c.write_page-wrote.ensures
     c.in-Refused.is c.number-in-Refused.ensures

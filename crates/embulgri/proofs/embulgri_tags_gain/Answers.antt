@@ -15,12 +15,12 @@ abbrev told : GainRead → Told ℕ
 told read = retold (of_z w16) (told_gain read)
 
 pub returns-in-Gain : goal.returns-in-Gain
-returns-in-Gain c = 
+returns-in-Gain c =
     let g = c.in-Gain.g in
     let kept : to_z w16 (of_z w16 g) ≡ g = search rules in
     rw (c.unsigned16.ensures, kept)
     (answered (ap (retold (of_z w16)) c.gain-read.ensures) (ap told c.in-Gain.is))
 
 pub returns-in-Refused : goal.returns-in-Refused
-returns-in-Refused c = 
+returns-in-Refused c =
     refused (ap (retold (of_z w16)) c.gain-read.ensures) (ap told c.in-Refused.is) c.number.ensures

@@ -11,27 +11,31 @@ use Rattle.feed_audio.specs.Code.{next_core}
 use Rattle.feed_audio.proofs.Pages.{completing_refused, completing_accepted, place-trimmed}
 use Rattle.feed_audio.proofs.feed_completing.Goals as goal
 use Rattle.feed_audio.proofs.feed_completing.Lts as lts
+use Rattle.feed_audio.proofs.feed_completing.Tie as tie
+
+abbrev Start : Type 0
+Start = lts.Start tie.the-claims tie.handed_pre tie.handed_post
 
 -- the reader has at most 255 streams
-few : (c : lts.Start) → c.args.core.streams ≤ 255
+few : (c : Start) → c.args.core.streams ≤ 255
 few c = let small = c.well_formed.0.1.1.1.1.1.0 in omega arith
 
 -- what is lent
-abbrev lent : lts.Start → Lent
+abbrev lent : Start → Lent
 lent s = lent_of s.args.carry.now s.args.ends.now s.args.lengths.now s.args.kept.now s.args.frames.now
 
 pub keep_rest-requires : goal.keep_rest-requires
 keep_rest-requires c = c.requires.left
 
 pub counts_of-counts-requires : goal.counts_of-counts-requires
-counts_of-counts-requires c = 
+counts_of-counts-requires c =
     let q : c.list_page.result ≡ Filled c.in-Filled.count c.in-Filled.d c.in-Filled.place c.in-Filled.left = c.in-Filled.is in
     let f = rw q at c.list_page.ensures in
     rw c.is_last_page-last.ensures (place-trimmed _ _ f.times)
 
 pub returns-in-Refused : goal.returns-in-Refused
-returns-in-Refused c = 
-    let st = c.before.before.before.before.before.before.before.before.before in
+returns-in-Refused c =
+    let st = c.before.before.before.before.before.before.before.before.before.before in
     let a = st.args in
     let q : c.list_page.result ≡ Refused c.in-Refused.why = c.in-Refused.is in
     completing_refused crc a.core a.tally a.h a.lacing.now a.body.now (lent st)
@@ -53,8 +57,8 @@ pub shape_of-frames-in-Filled : goal.shape_of-frames-in-Filled
 shape_of-frames-in-Filled c = c.frames-1.given
 
 pub returns-in-Filled : goal.returns-in-Filled
-returns-in-Filled c = 
-    let st = c.before.before.before.before.before.before.before.before.before in
+returns-in-Filled c =
+    let st = c.before.before.before.before.before.before.before.before.before.before in
     let a = st.args in
     let q : c.list_page.result ≡ Filled c.in-Filled.count c.in-Filled.d c.in-Filled.place c.in-Filled.left = c.in-Filled.is in
     completing_accepted crc a.core a.tally a.h a.lacing.now a.body.now (lent st)

@@ -8,7 +8,7 @@ use Rattle.feed_audio.proofs.Pages.{piece-page}
 use Rattle.feed_audio.proofs.feed_piece.Goals as goal
 
 pub returns : goal.returns
-returns c = 
+returns c =
     let a = c.args in
     rw (c.next_tally.ensures, c.no_counts-counts.ensures) (piece-page crc a.core a.tally a.h l a.body.now (with_carry m a.carry.now) a.bytes a.rest s
     c.append.ensures

@@ -12,14 +12,14 @@ returns-in-First c = λ carry lacing body. let q : c.args.core.phase ≡ First =
 
 pub returns-then-is_continued : goal.returns-then-is_continued
 unfolding expecting continued
-returns-then-is_continued c = 
+returns-then-is_continued c =
     λ carry lacing body.
     let q : c.args.core.phase ≡ Opened = cc in
     rw (q, ← c.is_continued.ensures, c.if-is_continued.true)
 
 pub returns-else-is_continued : goal.returns-else-is_continued
 unfolding expecting continued
-returns-else-is_continued c = 
+returns-else-is_continued c =
     λ carry lacing body.
     let q : c.args.core.phase ≡ Opened = cc in
     rw (q, ← c.is_continued.ensures, c.if-is_continued.false)

@@ -10,11 +10,11 @@ returns-then-not-is_header c = rw (failed c.is_header.ensures c.if-not-is_header
 
 pub returns-then-is_carry_short : goal.returns-then-is_carry_short
 unfolding is_header_page
-returns-then-is_carry_short c = 
+returns-then-is_carry_short c =
     rw (held c.is_header.ensures c.if-not-is_header.false, ← c.is_carry_short.ensures, c.if-is_carry_short.true)
 
 pub returns : goal.returns
 unfolding is_header_page
-returns c = 
+returns c =
     rw (held c.is_header.ensures c.if-not-is_header.false, ← c.is_carry_short.ensures, c.if-is_carry_short.false)
     c.is_body.ensures

@@ -9,7 +9,7 @@ use Rattle.feed_header.specs.Code.{longer}
 use Rattle.feed_header.proofs.longer.Goals as goal
 
 pub overflow_add-result : goal.overflow_add-result
-overflow_add-result c = 
+overflow_add-result c =
     let q : c.args.pending ≡ Held c.in-Held.k = cc in
     let small : c.in-Held.k + c.args.n ≤ packet_max = rw q at c.requires in
     omega arith

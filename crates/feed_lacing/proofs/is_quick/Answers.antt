@@ -26,7 +26,7 @@ pub returns-then-lacing-n : goal.returns-then-lacing-n
 returns-then-lacing-n c = refused e
 
 pub returns : goal.returns
-returns c = 
+returns c =
     let l : Bytes = c.args.lacing.now in
     let n : ℕ = length l - 1 in
     let few = leb-true c.sum_of.result packet_max e in

@@ -25,7 +25,7 @@ pub overflow_add-bytes : goal.overflow_add-bytes
 overflow_add-bytes c = omega arith
 
 pub returns-then-bytes-gt-PACKET_MAX-2 : goal.returns-then-bytes-gt-PACKET_MAX-2
-returns-then-bytes-gt-PACKET_MAX-2 c = 
+returns-then-bytes-gt-PACKET_MAX-2 c =
     let at = c.loop-i in
     let l = c.args.lacing.now in
     let v : ℕ = c.wide-v.result in
@@ -38,7 +38,7 @@ pub loop-i-smaller : goal.loop-i-smaller
 loop-i-smaller c = omega arith
 
 pub loop-i-preserved : goal.loop-i-preserved
-loop-i-preserved c = 
+loop-i-preserved c =
     let at = c.loop-i in
     let l = c.args.lacing.now in
     let v : ℕ = c.wide-v.result in
@@ -56,6 +56,6 @@ pub returns-then-bytes-gt-PACKET_MAX-3 : goal.returns-then-bytes-gt-PACKET_MAX-3
 returns-then-bytes-gt-PACKET_MAX-3 c = (rw c.loop-i.invariant.0 (above_scan _ _ c.if-bytes-gt-PACKET_MAX-3.true))
 
 pub returns-else-bytes-gt-PACKET_MAX-3 : goal.returns-else-bytes-gt-PACKET_MAX-3
-returns-else-bytes-gt-PACKET_MAX-3 c = 
+returns-else-bytes-gt-PACKET_MAX-3 c =
     let l = c.args.lacing.now in
     rw (c.loop-i.invariant.0, drop_of_length-le l c.loop-i-test.false) (scan_end c.loop-i.bytes c.if-bytes-gt-PACKET_MAX-3.false)

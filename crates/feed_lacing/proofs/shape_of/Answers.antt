@@ -19,7 +19,7 @@ pub overflow_add-i : goal.overflow_add-i
 overflow_add-i c = omega arith
 
 pub returns-then-i-lacing : goal.returns-then-i-lacing
-returns-then-i-lacing c = 
+returns-then-i-lacing c =
     let at = c.loop-i in
     let l = c.args.lacing.now in
     let i : ℕ = at.i in
@@ -28,7 +28,7 @@ returns-then-i-lacing c =
     rw (at.invariant.0, next l i v (omega arith) refl, ends (shape_at i) (drop (i + 1) l) v c.if-lacing-i-lt255.true, some_more (drop (i + 1) l) (omega arith))
 
 pub returns-then-lacing-i-lt255 : goal.returns-then-lacing-i-lt255
-returns-then-lacing-i-lt255 c = 
+returns-then-lacing-i-lt255 c =
     let at = c.loop-i in
     let l = c.args.lacing.now in
     let i : ℕ = at.i in
@@ -43,7 +43,7 @@ pub loop-i-smaller : goal.loop-i-smaller
 loop-i-smaller c = omega arith
 
 pub loop-i-preserved : goal.loop-i-preserved
-loop-i-preserved c = 
+loop-i-preserved c =
     let at = c.loop-i in
     let l = c.args.lacing.now in
     let i : ℕ = at.i in
@@ -52,13 +52,13 @@ loop-i-preserved c =
     (at.invariant.0 ∙ rw (next l i v here refl, shape-later i) (goes_on (shape_at i) (drop (i + 1) l) v c.if-lacing-i-lt255.false), omega arith)
 
 pub returns-then-i-eq0 : goal.returns-then-i-eq0
-returns-then-i-eq0 c = 
+returns-then-i-eq0 c =
     let at = c.loop-i in
     let l = c.args.lacing.now in
     rw (at.invariant.0, drop_of_length-le l c.loop-i-test.false, at_end_lem (shape_at at.i), c.if-i-eq0.true)
 
 pub returns : goal.returns
-returns c = 
+returns c =
     let at = c.loop-i in
     let l = c.args.lacing.now in
     rw (at.invariant.0, drop_of_length-le l c.loop-i-test.false, at_end_lem (shape_at at.i)) (sym (shape-some at.i c.if-i-eq0.false))

@@ -3,7 +3,7 @@ use Rattle.std.proofs.Common.{rules}
 use Rattle.feed_next.proofs.next_tally.Goals as goal
 
 pub returns : goal.returns
-returns c = 
+returns c =
     rw (
       c.wrapping_add_u64-4.ensures,
       c.wrapping_add_u64-3.ensures,

@@ -5,5 +5,5 @@ use Rattle.feed_numbers.proofs.core_from.Goals as goal
 
 pub returns : goal.returns
 unfolding reader_from
-returns c = 
+returns c =
     rw (c.position_from.ensures, c.pending_from.ensures, c.phase_from.ensures)

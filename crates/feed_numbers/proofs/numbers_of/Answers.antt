@@ -6,7 +6,7 @@ use Rattle.feed_numbers.proofs.numbers_of.Goals as goal
 
 pub returns : goal.returns
 unfolding numbers_of
-returns c = 
+returns c =
     -- the four numbers of the core, and the one of the tally
     let w = c.well_formed.0.1.1.1.1 in
     let y = c.well_formed.1.0.1.1 in

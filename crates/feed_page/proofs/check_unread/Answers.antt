@@ -10,10 +10,10 @@ returns-then-is_short c = rw (sym c.is_short.ensures ∙ c.if-is_short.true)
 
 pub returns-then-is_ended : goal.returns-then-is_ended
 unfolding first_of
-returns-then-is_ended c = 
+returns-then-is_ended c =
     rw (sym c.is_short.ensures ∙ c.if-is_short.false, sym c.is_ended.ensures ∙ c.if-is_ended.true)
 
 pub returns : goal.returns
 unfolding first_of
-returns c = 
+returns c =
     rw (sym c.is_short.ensures ∙ c.if-is_short.false, sym c.is_ended.ensures ∙ c.if-is_ended.false)

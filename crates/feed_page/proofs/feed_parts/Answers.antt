@@ -12,20 +12,30 @@ use Rattle.feed_page.specs.Stages.{DueIs, PartsOf, Unrefused}
 use Rattle.feed_page.proofs.Pages.{none_unread, some_unread}
 use Rattle.feed_page.proofs.feed_parts.Goals as goal
 use Rattle.feed_page.proofs.feed_parts.Lts as lts
+use Rattle.feed_page.proofs.feed_parts.Tie as tie
+
+abbrev After-check_unread : Type 0
+After-check_unread = lts.After-check_unread tie.the-claims tie.handed_pre tie.handed_post
+
+abbrev Start : Type 0
+Start = lts.Start tie.the-claims tie.handed_pre tie.handed_post
+
+abbrev After-page_due : Type 0
+After-page_due = lts.After-page_due tie.the-claims tie.handed_pre tie.handed_post
 
 -- where the function starts, and what is lent to it
-abbrev start : lts.After-check_unread → lts.Start
+abbrev start : After-check_unread → Start
 start c = c.before.before.before.before.before.before.before.before
 
-abbrev lent : lts.Start → Lent
+abbrev lent : Start → Lent
 lent s = lent_of s.args.carry.now s.args.ends.now s.args.lengths.now s.args.kept.now s.args.frames.now
 
 -- the place before 3 to 8
-abbrev first : lts.After-page_due → lts.After-check_unread
+abbrev first : After-page_due → After-check_unread
 first c = c.before.before.before
 
-module _ (c : lts.After-page_due) (crc : Bytes → ℕ) (b : Bytes) where
-  abbrev s : lts.Start
+module _ (c : After-page_due) (crc : Bytes → ℕ) (b : Bytes) where
+  abbrev s : Start
   s = start (first c)
 
   -- what 3 to 8 found
@@ -41,8 +51,8 @@ module _ (c : lts.After-page_due) (crc : Bytes → ℕ) (b : Bytes) where
   judged parts = c.page_due.ensures crc b s.args.tally (lent s) (unrefused parts)
 
 pub returns-in-Page : goal.returns-in-Page
-returns-in-Page c = 
-    let due = c.before.before in
+returns-in-Page c =
+    let due = c.before.before.before in
     c.feed_due.ensures crc (s due crc b).args.core b (record {
       awaits = subst (checked due crc b) c.in-Page.is (judged due crc b parts);
       room = (unrefused due crc b parts).room;
@@ -52,12 +62,12 @@ returns-in-Page c =
     })
 
 pub returns-in-Refused-page_due : goal.returns-in-Refused-page_due
-returns-in-Refused-page_due c = 
-    let due = c.before.before in
+returns-in-Refused-page_due c =
+    let due = c.before.before.before in
     subst (checked due crc b) c.in-Refused-page_due.is (judged due crc b parts)
 
 pub returns-in-Refused : goal.returns-in-Refused
-returns-in-Refused c = 
-    let unread = c.before.before in
+returns-in-Refused c =
+    let unread = c.before.before.before in
     let a = (start unread).args in
     some_unread crc a.core a.tally (lent (start unread)) b c.in-Refused.why (sym unread.check_unread.ensures ∙ ap found c.in-Refused.is)

@@ -9,14 +9,14 @@ use Rattle.stream.specs.Feed.{told_page}
 use Rattle.feed_page.proofs.of_header.Goals as goal
 
 pub returns-in-Page : goal.returns-in-Page
-returns-in-Page c = 
+returns-in-Page c =
     let kept = c.made_again.ensures in
     let q : c.args.fed ≡ Page c.in-Page.page = cc in
     let same = sym (ap told_header q) ∙ e in
     ap told_page kept ∙ cc
 
 pub returns-in-NotHeader : goal.returns-in-NotHeader
-returns-in-NotHeader c = 
+returns-in-NotHeader c =
     let q : c.args.fed ≡ NotHeader = cc in
     let same = sym (ap told_header q) ∙ e in
     let z : ◌≡◌ {A = ℕ} 0 1 = cc in

@@ -15,14 +15,18 @@ use Rattle.page_end.proofs.Ends.{end-inside}
 use Rattle.feed_pages.proofs.Feeding.{turn-full, turn-cut, turn-told, few-packets}
 use Rattle.feed_pages.proofs.feed_next.Goals as goal
 use Rattle.feed_pages.proofs.feed_next.Lts as lts
+use Rattle.feed_pages.proofs.feed_next.Tie as tie
+
+abbrev Start : Type 0
+Start = lts.Start tie.the-claims tie.handed_pre tie.handed_post
 
 -- what is lent
-abbrev lent : lts.Start → Lent
+abbrev lent : Start → Lent
 lent s = lent_of s.args.carry.now s.args.ends.now s.args.lengths.now s.args.kept.now s.args.frames.now
 
 -- the place where the end of the page is known
-module _ (c : lts.In-At) where
-  abbrev begun : lts.Start
+module _ (c : goal.In-At) where
+  abbrev begun : Start
   begun = c.before.before.before.before.before.before.before.before.before.before.before.before.before
 
   abbrev end : ℕ
@@ -40,8 +44,8 @@ module _ (c : lts.In-At) where
 
 pub returns-then-are_lists_short : goal.returns-then-are_lists_short
 unfolding is_full
-returns-then-are_lists_short c = 
-    let s = c.before.before.before.before.before.before.before.before.before in
+returns-then-are_lists_short c =
+    let s = c.before.before.before.before.before.before.before.before.before.before in
     turn-full _ s.args.buffer.now s.args.p (lent s) (sym c.are_lists_short.ensures ∙ c.if-are_lists_short.true)
 
 pub slice_bounds-feed_with-count : goal.slice_bounds-feed_with-count
@@ -54,15 +58,15 @@ pub slice_bounds-feed_with-end : goal.slice_bounds-feed_with-end
 slice_bounds-feed_with-end c = omega (arith, (inside c).after, (inside c).within)
 
 pub overflow_add-result : goal.overflow_add-result
-overflow_add-result c = 
-    let known = c.before.before.before.before.before.before.before.before.before.before.before.before.before.before.before.before.before.before.before.before.before in
+overflow_add-result c =
+    let known = c.before.before.before.before.before.before.before.before.before.before.before.before.before.before.before.before.before.before.before.before.before.before in
     let few = (begun known).requires.few in
     let small = inside known in
     search rules
 
 pub overflow_add-result-in-Accepted : goal.overflow_add-result-in-Accepted
-overflow_add-result-in-Accepted c = 
-    let known = c.before.before.before.before.before.before.before.before.before.before.before.before.before.before.before.before.before.before.before.before.before in
+overflow_add-result-in-Accepted c =
+    let known = c.before.before.before.before.before.before.before.before.before.before.before.before.before.before.before.before.before.before.before.before.before.before in
     let s = begun known in
     let few = few-packets _ s.args.buffer.now s.args.p (lent s) (places known) (end known) (ends_at_lem known) c.feed_with.ensures
     (record { below = λ i. (known.shared_slice_known-1.given i).fits }) s.pre (ap told_fed c.in-Accepted.is) in
@@ -71,8 +75,8 @@ overflow_add-result-in-Accepted c =
 
 pub returns-in-Cut : goal.returns-in-Cut
 unfolding is_full
-returns-in-Cut c = 
-    let s = c.before.before.before.before.before.before.before.before.before.before.before.before in
+returns-in-Cut c =
+    let s = c.before.before.before.before.before.before.before.before.before.before.before.before.before in
     turn-cut _ s.args.buffer.now s.args.p (lent s)
     (sym c.are_lists_short.ensures ∙ c.if-are_lists_short.false) (sym c.end_at.ensures ∙ ap found_end c.in-Cut.is)
 
@@ -80,14 +84,14 @@ pub shape_of-carry-in-Accepted : goal.shape_of-carry-in-Accepted
 shape_of-carry-in-Accepted c = c.carry-1.given
 
 pub returns-in-Accepted : goal.returns-in-Accepted
-returns-in-Accepted c = 
-    let known = c.before.before.before.before.before.before.before in
+returns-in-Accepted c =
+    let known = c.before.before.before.before.before.before.before.before in
     let s = begun known in
     turn-told _ s.args.buffer.now s.args.p (lent s) (places known) (end known) (ends_at_lem known) c.feed_with.ensures
     (ap told_fed c.in-Accepted.is)
 
 pub returns-in-Refused : goal.returns-in-Refused
-returns-in-Refused c = 
-    let known = c.before.before.before.before.before.before.before in
+returns-in-Refused c =
+    let known = c.before.before.before.before.before.before.before.before in
     let s = begun known in
     turn-told _ s.args.buffer.now s.args.p (lent s) (places known) (end known) (ends_at_lem known) c.feed_with.ensures (ap told_fed c.in-Refused.is)

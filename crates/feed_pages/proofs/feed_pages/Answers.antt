@@ -13,7 +13,7 @@ use Rattle.feed_pages.proofs.Checksums.{same-pages}
 use Rattle.feed_pages.proofs.feed_pages.Goals as goal
 
 pub returns : goal.returns
-returns c = 
+returns c =
     let a = c.args in
     c.run.ensures
     ∙ same-pages (page_sliced (entry_in c.tables-tables.result)) page_crc (λ (p : Bytes) (o : Octets p). page_sliced_right (entry_in c.tables-tables.result) c.tables-tables.ensures p o)

@@ -19,13 +19,20 @@ use Rattle.feed_pages.specs.Answers.{reached, told_stop, told_turn}
 use Rattle.feed_pages.proofs.Turns.{Onward, turn-onward, run_goes, run_stops}
 use Rattle.feed_pages.proofs.run.Goals as goal
 use Rattle.feed_pages.proofs.run.Lts as lts
+use Rattle.feed_pages.proofs.run.Tie as tie
+
+abbrev After-feed_next : Type 0
+After-feed_next = lts.After-feed_next tie.the-claims tie.handed_pre tie.handed_post goal.the-invariant-loop-next goal.the-decreases-loop-next
+
+abbrev After-shared_slice_known-1 : Type 0
+After-shared_slice_known-1 = lts.After-shared_slice_known tie.the-claims tie.handed_pre tie.handed_post goal.the-invariant-loop-next goal.the-decreases-loop-next
 
 no_page_yet : (n : ℕ) (R : Readings) (b : Bytes) (a : Reached) (m : Lent) → runs (n - 0) R b a m ≡ runs n R b a m
 no_page_yet n R b a m = let all : n - 0 ≡ n = omega arith in rw all
 
 -- where a turn has ended
-module _ (c : lts.After-feed_next invariant_loop decreases_loop) where
-  abbrev known : lts.After-shared_slice_known-1 invariant_loop decreases_loop
+module _ (c : After-feed_next) where
+  abbrev known : After-shared_slice_known-1
   known = c.before.before.before.before.before.before.before.before.before.before.before.before
 
   abbrev b : Bytes
@@ -86,14 +93,14 @@ pub feed_next-requires : goal.feed_next-requires
 feed_next-requires c = c.loop-next.invariant.1
 
 pub loop-next-smaller : goal.loop-next-smaller
-loop-next-smaller c = 
-    let on = onward c.before.before.before.before.before.before.before.before.before.before.before.before.before c.in-Goes.is in
+loop-next-smaller c =
+    let on = onward c.before.before.before.before.before.before.before.before.before.before.before.before.before.before c.in-Goes.is in
     omega (arith, on.moves, on.fits.bytes)
 
 pub loop-next-preserved : goal.loop-next-preserved
 unfolding feed_pages
-loop-next-preserved c = 
-    let call = c.before.before.before.before.before.before.before.before.before.before.before.before.before in
+loop-next-preserved c =
+    let call = c.before.before.before.before.before.before.before.before.before.before.before.before.before.before in
     let inv = call.loop-next.invariant in (
       rest_on call c.in-Goes.is,
       (onward call c.in-Goes.is).fits,
@@ -120,4 +127,4 @@ pub shape_of-frames-in-Stops : goal.shape_of-frames-in-Stops
 shape_of-frames-in-Stops c = c.frames-1.given ∙ c.loop-next.invariant.6
 
 pub returns-in-Stops : goal.returns-in-Stops
-returns-in-Stops c = stopped c.before.before.before.before.before.before.before.before.before.before.before.before.before c.in-Stops.is
+returns-in-Stops c = stopped c.before.before.before.before.before.before.before.before.before.before.before.before.before.before c.in-Stops.is

@@ -10,34 +10,34 @@ pub returns-then-channels-lt1 : goal.returns-then-channels-lt1
 returns-then-channels-lt1 c = let a = c.args in sym (no_channel a.family a.channels c.if-channels-lt1.true)
 
 pub returns-in-0 : goal.returns-in-0
-returns-in-0 c = 
+returns-in-0 c =
     let a = c.args in
     sym (most_decides a.family a.channels c.if-channels-lt1.false (rw c.in-0.is) (rw c.in-0.is))
 
 pub returns-in-1 : goal.returns-in-1
-returns-in-1 c = 
+returns-in-1 c =
     let a = c.args in
     sym (most_decides a.family a.channels c.if-channels-lt1.false (rw c.in-1.is) (rw c.in-1.is))
 
 pub returns-in-2 : goal.returns-in-2
-returns-in-2 c = 
+returns-in-2 c =
     let a = c.args in
     c.ambisonic_channels.ensures ∙ sym (set_decides a.family a.channels c.if-channels-lt1.false (rw c.in-2.is))
 
 pub returns-in-3 : goal.returns-in-3
-returns-in-3 c = 
+returns-in-3 c =
     let a = c.args in
     c.ambisonic_channels-in-3.ensures ∙ sym (set_decides a.family a.channels c.if-channels-lt1.false (rw c.in-3.is))
 
 pub returns-in-255 : goal.returns-in-255
-returns-in-255 c = 
+returns-in-255 c =
     let a = c.args in
     sym
     (most_decides a.family a.channels c.if-channels-lt1.false (rw c.in-255.is) (rw c.in-255.is)
     ∙ le-leb a.channels 255 (omega arith))
 
 pub returns-in_default : goal.returns-in_default
-returns-in_default c = 
+returns-in_default c =
     let a = c.args in
     let n = c.in_default.in_default-own.rest in
     let none = most_other n.0.0.0.0.1 n.0.0.0.1 n.1 in

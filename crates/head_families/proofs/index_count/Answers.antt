@@ -8,7 +8,7 @@ pub returns-then-has_matrix : goal.returns-then-has_matrix
 returns-then-has_matrix c = record { same = rw (sym c.has_matrix.ensures ∙ c.if-has_matrix.true); most = omega arith }
 
 pub returns : goal.returns
-returns c = 
+returns c =
     record {
       same = rw (sym c.has_matrix.ensures ∙ c.if-has_matrix.false) c.wide.ensures.same;
       most = c.wide.ensures.most;

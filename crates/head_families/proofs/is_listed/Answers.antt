@@ -14,7 +14,7 @@ pub bounds-s-i : goal.bounds-s-i
 bounds-s-i c = omega arith
 
 pub returns-then-s-i : goal.returns-then-s-i
-returns-then-s-i c = 
+returns-then-s-i c =
     let a = c.args in
     sym (found_number a.number a.s.now c.loop-i.i (omega arith) c.if-s-i.true) ∙ c.loop-i.invariant.0
 
@@ -25,7 +25,7 @@ pub loop-i-smaller : goal.loop-i-smaller
 loop-i-smaller c = omega arith
 
 pub loop-i-preserved : goal.loop-i-preserved
-loop-i-preserved c = 
+loop-i-preserved c =
     let a = c.args in
     (other-number a.number a.s.now c.loop-i.i (omega arith) c.if-s-i.false ∙ c.loop-i.invariant.0, omega arith)
 

@@ -6,13 +6,12 @@ use borrow.Author.Rules.{rules}
 use Rattle.octets.proofs.Tests.{failed, held}
 use Rattle.head_families.proofs.Lengths.{no_matrix, with_matrix, entries-most}
 use Rattle.head_families.proofs.matrix_length.Goals as goal
-use Rattle.head_families.proofs.matrix_length.Lts as lts
 
-few : (c : lts.After-wide-3) → (c.wide.result + c.wide-2.result) * c.wide-3.result ≤ 130050
+few : (c : goal.After-wide-3) → (c.wide.result + c.wide-2.result) * c.wide-3.result ≤ 130050
 few c = entries-most (c.wide.result + c.wide-2.result) c.wide-3.result (omega arith) c.wide-3.ensures.most
 
 pub returns-then-not-has_matrix : goal.returns-then-not-has_matrix
-returns-then-not-has_matrix c = 
+returns-then-not-has_matrix c =
     let a = c.args in
     sym (no_matrix a.family a.streams a.coupled a.channels (failed c.has_matrix.ensures c.if-not-has_matrix.true))
 
@@ -23,7 +22,7 @@ pub overflow_mul-result-2 : goal.overflow_mul-result-2
 overflow_mul-result-2 c = omega (arith, few c)
 
 pub returns : goal.returns
-returns c = 
+returns c =
     let a = c.args in
     let matrix = held c.has_matrix.ensures c.if-not-has_matrix.false in
     with_matrix a.family a.streams a.coupled a.channels matrix (omega arith) c.wide-3.ensures.same

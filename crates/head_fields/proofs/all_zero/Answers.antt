@@ -14,7 +14,7 @@ pub bounds-s-i : goal.bounds-s-i
 bounds-s-i c = omega arith
 
 pub returns-then-s-i-ne0 : goal.returns-then-s-i-ne0
-returns-then-s-i-ne0 c = 
+returns-then-s-i-ne0 c =
     sym (some-place c.args.s.now c.loop-i.i (omega arith) c.if-s-i-ne0.true) ∙ c.loop-i.invariant.0
 
 pub overflow_add-i : goal.overflow_add-i
@@ -24,7 +24,7 @@ pub loop-i-smaller : goal.loop-i-smaller
 loop-i-smaller c = omega arith
 
 pub loop-i-preserved : goal.loop-i-preserved
-loop-i-preserved c = 
+loop-i-preserved c =
     (zero-place c.args.s.now c.loop-i.i (omega arith) c.if-s-i-ne0.false ∙ c.loop-i.invariant.0, omega arith)
 
 pub returns : goal.returns

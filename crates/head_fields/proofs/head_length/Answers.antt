@@ -5,10 +5,9 @@ use borrow.Author.Rules.{rules}
 use Rattle.octets.proofs.Tests.{failed, held}
 use Rattle.head_families.proofs.Lengths.{matrix-most}
 use Rattle.head_fields.proofs.head_length.Goals as goal
-use Rattle.head_fields.proofs.head_length.Lts as lts
 
 -- the sum is that of three small numbers
-small : (c : lts.After-matrix_length) → c.matrix_length.result ≤ 260100
+small : (c : goal.After-matrix_length) → c.matrix_length.result ≤ 260100
 small c =
     let a = c.args in
     let most = matrix-most a.family a.streams a.coupled a.channels (omega arith) (omega arith) (omega arith) in
@@ -24,6 +23,6 @@ pub overflow_add-result-2 : goal.overflow_add-result-2
 overflow_add-result-2 c = omega (arith, small c)
 
 pub returns : goal.returns
-returns c = 
+returns c =
     rw (held c.has_counts.ensures c.if-not-has_counts.false)
     (omega (arith, c.matrix_length.ensures, c.index_count-indices.ensures.same))

@@ -18,7 +18,7 @@ pub wide-index-requires : goal.wide-index-requires
 wide-index-requires c = tt
 
 pub returns-then-index-ne255 : goal.returns-then-index-ne255
-returns-then-index-ne255 c = 
+returns-then-index-ne255 c =
     let a = c.args in
     let e = c.wide-index.ensures.same in
     sym (wrong-index a.n a.s.now c.loop-i.i (omega arith) (rw e at c.if-index-n.true) (rw e at c.if-index-ne255.true)) ∙ c.loop-i.invariant.0
@@ -30,7 +30,7 @@ pub loop-i-smaller : goal.loop-i-smaller
 loop-i-smaller c = omega arith
 
 pub loop-i-preserved : goal.loop-i-preserved
-loop-i-preserved c = 
+loop-i-preserved c =
     let a = c.args in
     let e = c.wide-index.ensures.same in
     ⊎_elim
@@ -40,6 +40,6 @@ loop-i-preserved c =
 
 pub returns : goal.returns
 unfolding right_indices
-returns c = 
+returns c =
     let a = c.args in
     rw (drop_of_length-le a.s.now c.loop-i-test.false) at c.loop-i.invariant.0

@@ -8,19 +8,18 @@ use lib.Seq.{length-take-le}
 use Rattle.octets.proofs.Tests.{failed, held}
 use Rattle.head_fields.proofs.Checks.{wrong-channels, wrong-streams, indices_decide}
 use Rattle.head_fields.proofs.right_mapping.Goals as goal
-use Rattle.head_fields.proofs.right_mapping.Lts as lts
 
 -- the mapping has 255 places
-long : (c : lts.After-mapping-1) → length c.args.h.mapping ≡ 255
+long : (c : goal.After-mapping-1) → length c.args.h.mapping ≡ 255
 long c = search rules
 
 pub returns-then-not-allowed_channels : goal.returns-then-not-allowed_channels
-returns-then-not-allowed_channels c = 
+returns-then-not-allowed_channels c =
     let call = c.allowed_channels in
     sym (wrong-channels c.args.h (failed call.ensures c.if-not-allowed_channels.true))
 
 pub returns-then-not-right_streams : goal.returns-then-not-right_streams
-returns-then-not-right_streams c = 
+returns-then-not-right_streams c =
     let channels = c.allowed_channels in
     let streams = c.right_streams in
     sym
@@ -28,13 +27,13 @@ returns-then-not-right_streams c =
     (failed streams.ensures c.if-not-right_streams.true))
 
 pub slice_bounds-mapping-end : goal.slice_bounds-mapping-end
-slice_bounds-mapping-end c = omega (arith, long c.before, c.index_count-used.ensures.most)
+slice_bounds-mapping-end c = omega (arith, long c.before.before, c.index_count-used.ensures.most)
 
 pub slice_bounds-right_indices-end : goal.slice_bounds-right_indices-end
-slice_bounds-right_indices-end c = sym (length-take-le _ _ (array_share_prefix_mapping c.before))
+slice_bounds-right_indices-end c = sym (length-take-le _ _ (array_share_prefix_mapping c.before.before))
 
 pub returns : goal.returns
-returns c = 
+returns c =
     let h = c.args.h in
     let sum : c.wide.result + c.wide-2.result ≡ h.coupled + h.streams = omega arith in
     c.right_indices.ensures

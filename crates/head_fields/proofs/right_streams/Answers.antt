@@ -13,7 +13,7 @@ pub returns-then-coupled-streams : goal.returns-then-coupled-streams
 returns-then-coupled-streams c = sym (too_coupled c.args.h (omega arith) (omega arith))
 
 pub returns : goal.returns
-returns c = 
+returns c =
     let h = c.args.h in
     let sum : c.wide-coupled.result + c.wide-streams.result ≡ h.coupled + h.streams = omega arith in
     sym (sum_decides h (omega arith) (omega arith) sum)

@@ -8,7 +8,7 @@ use Rattle.text_decimal.specs.Decimal.{decimal}
 use Rattle.head_lines.proofs.lay_index.Goals as goal
 
 pub returns : goal.returns
-returns c = 
+returns c =
     let both = length-append space (decimal c.args.i) in
     let first = laid-put (omega (arith, c.requires)) c.put_bytes-next.ensures in
     laid_then first (omega (arith, first.place, c.requires)) c.put_decimal.ensures

@@ -10,9 +10,13 @@ use Rattle.head_lines.specs.Lines.{spaced}
 use Rattle.head_lines.proofs.Parts.{next-index, no_index}
 use Rattle.head_lines.proofs.lay_spaced.Goals as goal
 use Rattle.head_lines.proofs.lay_spaced.Lts as lts
+use Rattle.head_lines.proofs.lay_spaced.Tie as tie
+
+abbrev In-loop-i : Type 0
+In-loop-i = lts.In-loop tie.the-claims tie.handed_pre tie.handed_post goal.the-invariant-loop-i goal.the-decreases-loop-i
 
 -- what is left at the loop's place: a number and the others
-split : (c : lts.In-loop-i invariant_loop decreases_loop)
+split : (c : In-loop-i)
     → let l = c.before in
     let a = l.args in
     Filling a.out.now 0 (spaced a.s.now) l.loop-i.out l.loop-i.place
@@ -28,8 +32,8 @@ pub bounds-s-i : goal.bounds-s-i
 bounds-s-i c = omega arith
 
 pub lay_index-place-requires : goal.lay_index-place-requires
-lay_index-place-requires c = 
-    let turn = c.before.before in
+lay_index-place-requires c =
+    let turn = c.before.before.before in
     let a = turn.args in
     let both = length-append (space ++ decimal (get_or a.s.now turn.loop-i.i 0)) (spaced (drop (turn.loop-i.i + 1) a.s.now)) in
     omega (arith, both, (split turn).place, (split turn).size, turn.requires)
@@ -41,13 +45,13 @@ pub loop-i-smaller : goal.loop-i-smaller
 loop-i-smaller c = omega arith
 
 pub loop-i-preserved : goal.loop-i-preserved
-loop-i-preserved c = 
-    let turn = c.before.before.before.before.before in
+loop-i-preserved c =
+    let turn = c.before.before.before.before.before.before in
     filling_next (split turn) c.lay_index-place.ensures (omega (arith, turn.requires))
 
 pub shape_of-out : goal.shape_of-out
 shape_of-out c = c.loop-i.invariant.size
 
 pub returns : goal.returns
-returns c = 
+returns c =
     filling_done (rw (no_index c.args.s.now c.loop-i.i c.loop-i-test.false) at c.loop-i.invariant) (omega (arith, c.requires))

@@ -13,8 +13,8 @@ use Rattle.head_lines.proofs.put_entry.Goals as goal
 
 pub returns : goal.returns
 unfolding entry_text
-returns c = 
-    let s = c.before.before.before.before.before.before.before.before.before.before.before in
+returns c =
+    let s = c.before.before.before.before.before.before.before.before.before.before.before.before in
     let most = length_signed s.args.x s.ranges.x.sfits in
     let known = put-known (ap signed_decimal (to_z-of_z s.ranges.x)) c.put_signed-n.ensures in
     put_ended {s = signed_decimal s.args.x} space (laid-put (omega arith) known) (omega arith) c.part_of.ensures c.put_both.ensures

@@ -13,7 +13,7 @@ use Rattle.head_lines.proofs.put_gain.Goals as goal
 
 pub returns : goal.returns
 unfolding gain_line
-returns c = 
+returns c =
     let end = laid-known (ap gain_end (to_z-of_z c.ranges.g)) c.lay_gain-n.ensures in
     put_ended gain_is end
     (omega (arith, length-append (signed_decimal c.args.g) (decibels_end c.args.g), length_signed c.args.g c.ranges.g.sfits, length-end c.args.g c.ranges.g.sfits))

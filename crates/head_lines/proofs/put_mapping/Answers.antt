@@ -12,14 +12,13 @@ use Rattle.head_fields.specs.Right.{used_places}
 use Rattle.head_lines.specs.Lines.{mapping_is, mapping_end, mapping_line}
 use Rattle.head_lines.proofs.Parts.{put_ended}
 use Rattle.head_lines.proofs.put_mapping.Goals as goal
-use Rattle.head_lines.proofs.put_mapping.Lts as lts
 
 -- the part that is used
-used : (c : lts.After-part_of) → c.part_of.result.now ≡ used_places c.args.head
+used : (c : goal.After-part_of) → c.part_of.result.now ≡ used_places c.args.head
 used c = c.part_of.ensures ∙ ap (λ (n : ℕ). take n c.args.head.mapping) c.index_count-used.ensures.same
 
 pub lay_mapping-n-requires : goal.lay_mapping-n-requires
-lay_mapping-n-requires c = 
+lay_mapping-n-requires c =
     let h = c.args.head in
     let n = c.index_count-used.ensures in
     let size = ap length (used c) ∙ length-take (used_count h) h.mapping in
@@ -27,8 +26,8 @@ lay_mapping-n-requires c =
 
 pub returns : goal.returns
 unfolding mapping_line
-returns c = 
+returns c =
     let end = c.lay_mapping-n.ensures in
-    let places = used c.before.before.before.before.before.before.before.before.before in
+    let places = used c.before.before.before.before.before.before.before.before.before.before in
     put-known (ap (λ (s : Bytes). mapping_is ++ mapping_end s) places)
     (put_ended mapping_is end.laid (omega (arith, end.short)) c.part_of-2.ensures c.put_both.ensures)

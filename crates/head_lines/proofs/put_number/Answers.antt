@@ -12,8 +12,8 @@ use Rattle.head_lines.proofs.put_number.Goals as goal
 
 pub returns : goal.returns
 unfolding number_line
-returns c = 
-    let s = c.before.before.before.before.before.before.before.before.before.before.before in
+returns c =
+    let s = c.before.before.before.before.before.before.before.before.before.before.before.before in
     let size = length-ended s.args.x 10 in
     let most = length-u64 s.args.x s.ranges.x.fits in
     let end = laid-put {s = decimal s.args.x ++ line_feed} (omega arith) c.put_ended-n.ensures in

@@ -16,7 +16,7 @@ pub overflow_mul-i : goal.overflow_mul-i
 overflow_mul-i c = omega arith
 
 pub returns : goal.returns
-returns c = 
+returns c =
     let a = c.args in
     let z = c.signed16.result in
     let kept : to_z w16 (of_z w16 z) ≡ z = search rules in

@@ -9,7 +9,7 @@ use Rattle.head_matrix.proofs.Answers.{entry-given, entry-refused}
 use Rattle.head_matrix.proofs.read_entry.Goals as goal
 
 pub returns-in-Size : goal.returns-in-Size
-returns-in-Size c = 
+returns-in-Size c =
     let a = c.args in
     let i : ℕ = a.i in
     c.entry_at.ensures
@@ -17,6 +17,6 @@ returns-in-Size c =
     ∙ entry-given a.b.now c.in-Size.n (sym c.read_size.ensures ∙ ap told_size c.in-Size.is) i
 
 pub returns-in-Refused : goal.returns-in-Refused
-returns-in-Refused c = 
+returns-in-Refused c =
     let a = c.args in
     entry-refused a.b.now (number_of c.in-Refused.why) (sym c.read_size.ensures ∙ ap told_size c.in-Refused.is) a.i

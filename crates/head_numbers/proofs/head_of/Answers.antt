@@ -8,7 +8,7 @@ use Rattle.head_numbers.proofs.head_of.Goals as goal
 
 pub returns : goal.returns
 unfolding head_from
-returns c = 
+returns c =
     let call = c.signed16-gain in
     let kept : to_z w16 (of_z w16 call.result) ≡ call.result = search rules in
     rw (kept, call.ensures)

@@ -25,7 +25,7 @@ pub bounds-bounds-i : goal.bounds-bounds-i
 bounds-bounds-i c = omega arith
 
 pub returns-then-fields-i : goal.returns-then-fields-i
-returns-then-fields-i c = 
+returns-then-fields-i c =
     let f = c.args.fields.now in
     sym (below-stop widths f c.loop-i.i (omega arith) c.if-fields-i.true) ∙ c.loop-i.invariant.0
 
@@ -36,12 +36,12 @@ pub loop-i-smaller : goal.loop-i-smaller
 loop-i-smaller c = omega arith
 
 pub loop-i-preserved : goal.loop-i-preserved
-loop-i-preserved c = 
+loop-i-preserved c =
     let f = c.args.fields.now in
     (below_next widths f c.loop-i.i (omega arith) c.if-fields-i.false ∙ c.loop-i.invariant.0, omega arith)
 
 pub returns : goal.returns
 unfolding all_below
-returns c = 
+returns c =
     let none : drop c.loop-i.i widths ≡ [] = drop_of_length-le widths {i = c.loop-i.i} (omega arith) in
     rw none at c.loop-i.invariant.0

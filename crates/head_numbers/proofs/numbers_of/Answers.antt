@@ -6,7 +6,7 @@ use mir.Val.{to_z, of_z}
 use Rattle.head_numbers.proofs.numbers_of.Goals as goal
 
 pub returns : goal.returns
-returns c = 
+returns c =
     -- the fifth of the nine fields
     let gain = c.well_formed.0.1.1.1.1.1.1.0 in
     let h = c.args.h in

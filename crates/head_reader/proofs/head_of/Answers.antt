@@ -10,7 +10,7 @@ use Rattle.head_reader.proofs.head_of.Goals as goal
 
 pub returns : goal.returns
 unfolding head_of
-returns c = 
+returns c =
     let z = c.signed16-gain.result in
     let kept : to_z w16 (of_z w16 z) ≡ z = search rules in
     let gain : to_z w16 (of_z w16 z) ≡ to_z w16 (number 2 c.args.b.now gain_place) =

@@ -5,7 +5,7 @@ use Rattle.head_reader.proofs.length_of.Goals as goal
 
 pub returns : goal.returns
 unfolding length_of
-returns c = 
+returns c =
     rw (
       ← c.byte_at-family.ensures,
       ← c.byte_at-streams.ensures,

@@ -9,7 +9,7 @@ use Rattle.head_writer.proofs.start_of.Goals as goal
 
 pub returns : goal.returns
 unfolding octets start_of
-returns c = 
+returns c =
     let h = c.args.h in
     let kept : to_z w16 (of_z w16 h.gain) ≡ h.gain = search rules in
     let bits : c.unsigned16.result ≡ of_z w16 h.gain = c.unsigned16.ensures ∙ ap (of_z w16) kept in

@@ -6,7 +6,7 @@ use Rattle.index_builder.proofs.plan.Goals as goal
 
 pub returns-in-Whole : goal.returns-in-Whole
 unfolding build
-returns-in-Whole c = 
+returns-in-Whole c =
     c.fit.ensures ∙ rw (← c.judge.ensures, c.in-Whole.is)
 
 pub returns-in-Refused : goal.returns-in-Refused

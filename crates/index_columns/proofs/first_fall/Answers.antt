@@ -12,18 +12,18 @@ pub loop-i-init : goal.loop-i-init
 loop-i-init c = all c.args.granules.now
 
 pub returns-then-g-before : goal.returns-then-g-before
-returns-then-g-before c = 
+returns-then-g-before c =
     sym (here c.args.granules.now c.loop-i.i
     c.loop-i.before (omega arith) (omega arith))
     ∙ c.loop-i.invariant
 
 pub loop-i-preserved : goal.loop-i-preserved
-loop-i-preserved c = 
+loop-i-preserved c =
     sym (behind c.args.granules.now c.loop-i.i
     c.loop-i.before (omega arith) (omega arith))
     ∙ c.loop-i.invariant
 
 pub returns : goal.returns
-returns c = 
+returns c =
     sym (nowhere c.args.granules.now c.loop-i.i c.loop-i.before (omega arith))
     ∙ c.loop-i.invariant

@@ -12,7 +12,7 @@ pub loop-t-smaller : goal.loop-t-smaller
 loop-t-smaller c = rw c.step-t.ensures (less _ _ c.loop-t-test.true)
 
 pub loop-t-preserved : goal.loop-t-preserved
-loop-t-preserved c = 
+loop-t-preserved c =
     rw (c.step-t.ensures, c.long_at-g.ensures, c.place-at.ensures)
     (sym (finish_go _ _ c.loop-t-test.true) ∙ c.loop-t.invariant)
 

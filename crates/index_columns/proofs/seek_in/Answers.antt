@@ -5,6 +5,6 @@ use Rattle.index_search.proofs.Seeking.{seeks}
 use Rattle.index_columns.proofs.seek_in.Goals as goal
 
 pub returns : goal.returns
-returns c = 
+returns c =
     rw (c.answer.ensures, c.run-t.ensures, c.halving-s.ensures)
     (rw c.first_fall-f.ensures (seeks _ _ (omega arith)))

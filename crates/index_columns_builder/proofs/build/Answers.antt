@@ -7,7 +7,7 @@ use Rattle.index_columns_builder.proofs.Building.{granules-stored, places-stored
 use Rattle.index_columns_builder.proofs.build.Goals as goal
 
 pub returns-then-not-are_equal : goal.returns-then-not-are_equal
-returns-then-not-are_equal c = 
+returns-then-not-are_equal c =
     record {
       told = unequal _ _ _ _ _ (failed c.are_equal.ensures c.if-not-are_equal.true);
       granule = refl;
@@ -16,7 +16,7 @@ returns-then-not-are_equal c =
     }
 
 pub returns-in-Fits : goal.returns-in-Fits
-returns-in-Fits c = 
+returns-in-Fits c =
     let args = c.args in
     let gs = args.granules.now in
     let ps = args.places.now in
@@ -33,7 +33,7 @@ returns-in-Fits c =
     }
 
 pub returns-in-Refused : goal.returns-in-Refused
-returns-in-Refused c = 
+returns-in-Refused c =
     let args = c.args in
     record {
       told = equal _ _ _ _ _ (held c.are_equal.ensures c.if-not-are_equal.false)

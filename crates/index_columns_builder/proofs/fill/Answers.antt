@@ -7,9 +7,13 @@ use Rattle.index_walk.proofs.Walking.{nearer}
 use Rattle.index_columns_builder.proofs.Filling.{Filled, ends, counted, filled_begins, filled_goes_on}
 use Rattle.index_columns_builder.proofs.fill.Goals as goal
 use Rattle.index_columns_builder.proofs.fill.Lts as lts
+use Rattle.index_columns_builder.proofs.fill.Tie as tie
+
+abbrev Start : Type 0
+Start = lts.Start tie.the-claims tie.handed_pre tie.handed_post goal.the-invariant-loop-w goal.the-decreases-loop-w
 
 -- the lengths of what is lent
-module _ (c : lts.Start invariant_loop decreases_loop) where
+module _ (c : Start) where
   stream-fits : length c.args.stream.now < 2 ^ 64
   stream-fits = omega arith
 
@@ -26,13 +30,13 @@ pub loop-w-init : goal.loop-w-init
 loop-w-init c = filled_begins _ _ _ _ c.begin-w.ensures
 
 pub loop-w-smaller : goal.loop-w-smaller
-loop-w-smaller c = 
+loop-w-smaller c =
     let b = c.args.stream.now in
     rw c.next-w.ensures (nearer b c.loop-w.w (omega arith))
 
 pub loop-w-preserved : goal.loop-w-preserved
-loop-w-preserved c = 
-    let start = c.before.before.before.before.before.before in
+loop-w-preserved c =
+    let start = c.before.before.before.before.before.before.before in
     let args = start.args in
     filled_goes_on args.stream.now args.granules.now args.places.now args.sequences.now c.loop-w.w
     c.loop-w.granules c.loop-w.places c.loop-w.sequences c.next-w.ensures (omega arith) (stream-fits start)
@@ -49,7 +53,7 @@ pub shape_of-sequences : goal.shape_of-sequences
 shape_of-sequences c = c.loop-w.invariant.sequences.long
 
 pub returns : goal.returns
-returns c = 
+returns c =
     let at = c.loop-w in
     record {
       count = counted _ _ at.w (omega arith) at.invariant.counts;

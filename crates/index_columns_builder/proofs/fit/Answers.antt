@@ -9,13 +9,13 @@ use Rattle.index_columns_builder.proofs.Fitting.{surely_fits}
 use Rattle.index_columns_builder.proofs.fit.Goals as goal
 
 pub returns-then-pages-room : goal.returns-then-pages-room
-returns-then-pages-room c = 
+returns-then-pages-room c =
     let args = c.args in
     let n = length (index_of (pages_of args.stream.now)) in
     surely_fits n args.pages args.room c.requires (omega (arith, c.if-pages-room.true))
 
 pub returns-then-pages-room-le2 : goal.returns-then-pages-room-le2
-returns-then-pages-room-le2 c = 
+returns-then-pages-room-le2 c =
     let args = c.args in
     let n = length (index_of (pages_of args.stream.now)) in
     surely_fits n args.pages args.room c.requires (omega (arith, c.if-pages-room-le2.true, c.if-pages-room.false))

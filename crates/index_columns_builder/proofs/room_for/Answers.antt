@@ -9,15 +9,15 @@ use Rattle.index_columns_builder.proofs.Fitting.{records-fit}
 use Rattle.index_columns_builder.proofs.room_for.Goals as goal
 
 pub fit-requires : goal.fit-requires
-fit-requires c = 
+fit-requires c =
     records-fit (readings page_crc) _ _ _ (sym c.judge.ensures ∙ ap told_judged c.in-Whole.is)
 
 pub returns-in-Whole : goal.returns-in-Whole
 unfolding build
-returns-in-Whole c = 
+returns-in-Whole c =
     c.fit.ensures ∙ rw (← c.judge.ensures, c.in-Whole.is)
 
 pub returns-in-Refused : goal.returns-in-Refused
 unfolding build
-returns-in-Refused c = 
+returns-in-Refused c =
     rw (← c.judge.ensures, c.in-Refused.is)

@@ -8,6 +8,6 @@ use Rattle.index_lines.proofs.Lines.{length-record}
 use Rattle.index_lines.proofs.lacks_record.Goals as goal
 
 pub returns : goal.returns
-returns c = 
+returns c =
     let a = c.args in
     c.is_short.ensures ∙ ap (λ (n : ℕ). ltb a.len (a.at + n)) (omega (arith, length-record a.granule a.place a.sequence))

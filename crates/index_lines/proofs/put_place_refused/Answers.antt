@@ -9,9 +9,13 @@ use Rattle.index_lines.specs.Lines.{place_refused_line}
 use Rattle.index_lines.proofs.Lines.{length-refused, laid-refused}
 use Rattle.index_lines.proofs.put_place_refused.Goals as goal
 use Rattle.index_lines.proofs.put_place_refused.Lts as lts
+use Rattle.index_lines.proofs.put_place_refused.Tie as tie
+
+abbrev Else-is_short : Type 0
+Else-is_short = lts.Else1 tie.the-claims tie.handed_pre tie.handed_post
 
 -- the line fits
-fits : (c : lts.Else-is_short) → let a = c.args in a.at + length (place_refused_line a.number a.place) ≤ length a.out.now
+fits : (c : Else-is_short) → let a = c.args in a.at + length (place_refused_line a.number a.place) ≤ length a.out.now
 fits c =
     let a = c.args in
     let room : a.at + (16 + c.digits_of.result + c.digits_of-2.result) ≤ length a.out.now = not-below c.is_short.ensures c.if-is_short.false in
@@ -23,7 +27,7 @@ fits c =
     )
 
 pub returns-then-is_short : goal.returns-then-is_short
-returns-then-is_short c = 
+returns-then-is_short c =
     let a = c.args in
     let short : length a.out.now < a.at + (16 + c.digits_of.result + c.digits_of-2.result) = is_below c.is_short.ensures c.if-is_short.true in
     put-nothing (omega (
@@ -34,7 +38,7 @@ returns-then-is_short c =
     ))
 
 pub returns : goal.returns
-returns c = 
-    let test = c.before.before.before in
+returns c =
+    let test = c.before.before.before.before in
     let a = test.args in
     put-laid (fits test) (laid-refused a.number a.place c.put_named-next.ensures c.put_named.ensures (fits test))

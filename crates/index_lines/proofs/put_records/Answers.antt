@@ -8,16 +8,23 @@ use Rattle.index_lines.proofs.Lines.{record-most}
 use Rattle.index_lines.proofs.Records.{Done, done-starts, same_size, all_done, no_room, one_more}
 use Rattle.index_lines.proofs.put_records.Goals as goal
 use Rattle.index_lines.proofs.put_records.Lts as lts
+use Rattle.index_lines.proofs.put_records.Tie as tie
+
+abbrev At-loop-i : Type 0
+At-loop-i = lts.At-loop tie.the-claims tie.handed_pre tie.handed_post goal.the-invariant-loop-i goal.the-decreases-loop-i
+
+abbrev Start : Type 0
+Start = lts.Start tie.the-claims tie.handed_pre tie.handed_post goal.the-invariant-loop-i goal.the-decreases-loop-i
 
 -- where a turn begins
-module _ (c : lts.In-loop-i invariant_loop decreases_loop) where
-  abbrev here : lts.At-loop-i invariant_loop decreases_loop
+module _ (c : goal.In-loop-i) where
+  abbrev here : At-loop-i
   here = c.before
 
-  abbrev sized : lts.After-least-n invariant_loop decreases_loop
+  abbrev sized : goal.After-least-n
   sized = here.before
 
-  abbrev entry : lts.Start invariant_loop decreases_loop
+  abbrev entry : Start
   entry = sized.before.before.before.before.before.before
 
   in_granules : here.loop-i.i < length entry.args.granules.now
@@ -36,13 +43,13 @@ pub shape_of-out-then-is_short : goal.shape_of-out-then-is_short
 shape_of-out-then-is_short c = same_size c.loop-i.invariant
 
 pub returns-then-is_short : goal.returns-then-is_short
-returns-then-is_short c = 
-    let turn = c.before in
+returns-then-is_short c =
+    let turn = c.before.before in
     no_room (here turn).loop-i.invariant (in_granules turn) (in_places turn) (in_sequences turn) (sym c.is_short.ensures ∙ c.if-is_short.true)
 
 pub loop-i-preserved : goal.loop-i-preserved
-loop-i-preserved c = 
-    let turn = c.before.before in
+loop-i-preserved c =
+    let turn = c.before.before.before in
     let i = (here turn).loop-i.i in
     one_more (here turn).loop-i.invariant (in_granules turn) (in_places turn) (in_sequences turn) (sym c.is_short.ensures ∙ c.if-is_short.false)
     (record-most _ _ _ (c.shared_slice_known-in-loop-i-1.given i).fits (c.shared_slice_known-in-loop-i-2-1.given i).fits (c.shared_slice_known-in-loop-i-3-1.given i).fits)
@@ -52,5 +59,5 @@ pub shape_of-out : goal.shape_of-out
 shape_of-out c = same_size c.loop-i.invariant
 
 pub returns : goal.returns
-returns c = 
+returns c =
     all_done c.loop-i.invariant (omega (arith, c.least-n.ensures, c.least.ensures, c.loop-i-test.false))

@@ -7,10 +7,10 @@ pub returns-in-At : goal.returns-in-At
 returns-in-At c = rw c.in-At.is
 
 pub returns-then-s-gt0 : goal.returns-then-s-gt0
-returns-then-s-gt0 c = 
+returns-then-s-gt0 c =
     rw c.in-Nowhere.is
     (found_some c.args.s.low _ c.if-s-gt0.true)
 
 pub returns-else-s-gt0 : goal.returns-else-s-gt0
-returns-else-s-gt0 c = 
+returns-else-s-gt0 c =
     rw c.in-Nowhere.is (found_none c.args.s.low _ c.if-s-gt0.false)

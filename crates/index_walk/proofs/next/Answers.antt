@@ -17,11 +17,11 @@ unfolding next_of page_of completes
 stepped b w p h l done page header lacing e = rw (e, lacing, header, page)
 
 pub overflow_add-end : goal.overflow_add-end
-overflow_add-end c = 
+overflow_add-end c =
     omega (arith, ap length c.page_at-page.ensures, page-within c.args.stream.now c.args.w.at)
 
 pub returns : goal.returns
-returns c = 
+returns c =
     c.step.ensures
     ∙ stepped c.args.stream.now c.args.w c.page_at-page.result.now c.header_of-header.result
     c.lacing_of.result.now c.has_end-done.result

@@ -2,6 +2,19 @@
 use Rattle.std.proofs.Common.{◌≡◌, ℕ, List, length, refl, ◌∙◌, arith, rules}
 use Rattle.list.proofs.run.Goals as goal
 use Rattle.list.proofs.run.Lts as lts
+use Rattle.list.proofs.run.Tie as tie
+
+abbrev After-slice_known-in-loop-turns-7-1 : Type 0
+After-slice_known-in-loop-turns-7-1 = lts.After-slice_known14 tie.the-claims tie.handed_pre tie.handed_post goal.the-invariant-loop-turns goal.the-decreases-loop-turns
+
+abbrev After-turn : Type 0
+After-turn = lts.After-turn tie.the-claims tie.handed_pre tie.handed_post goal.the-invariant-loop-turns goal.the-decreases-loop-turns
+
+abbrev In-loop-turns : Type 0
+In-loop-turns = lts.In-loop tie.the-claims tie.handed_pre tie.handed_post goal.the-invariant-loop-turns goal.the-decreases-loop-turns
+
+abbrev Start : Type 0
+Start = lts.Start tie.the-claims tie.handed_pre tie.handed_post goal.the-invariant-loop-turns goal.the-decreases-loop-turns
 
 record Lengths (buffer₀ carry₀ ends₀ lengths₀ kept₀ frames₀ out₀ buffer carry ends lengths kept frames out : List ℕ) : Type 0 where
   bytes : length buffer ≡ length buffer₀
@@ -13,14 +26,14 @@ record Lengths (buffer₀ carry₀ ends₀ lengths₀ kept₀ frames₀ out₀ b
   text : length out ≡ length out₀
 
 -- after a turn
-module _ (c : lts.After-slice_known-in-loop-turns-7-1 invariant_loop decreases_loop) where
-  abbrev call : lts.After-turn invariant_loop decreases_loop
+module _ (c : After-slice_known-in-loop-turns-7-1) where
+  abbrev call : After-turn
   call = c.before.before.before.before.before.before.before.before.before.before.before.before.before.before
 
-  abbrev turn : lts.In-loop-turns invariant_loop decreases_loop
+  abbrev turn : In-loop-turns
   turn = call.before.before.before.before.before.before.before.before
 
-  abbrev entry : lts.Start invariant_loop decreases_loop
+  abbrev entry : Start
   entry = turn.before.before.before.before.before.before.before.before.before
 
   same : let a = entry.args in
@@ -42,34 +55,34 @@ pub loop-turns-init : goal.loop-turns-init
 loop-turns-init c = record { bytes = refl; held = refl; stamps = refl; samples = refl; keeps = refl; counts = refl; text = refl }
 
 pub shape_of-buffer-in-Ends : goal.shape_of-buffer-in-Ends
-shape_of-buffer-in-Ends c = (same c.before.before).bytes
+shape_of-buffer-in-Ends c = (same c.before.before.before).bytes
 
 pub shape_of-carry-in-Ends : goal.shape_of-carry-in-Ends
-shape_of-carry-in-Ends c = (same c.before.before).held
+shape_of-carry-in-Ends c = (same c.before.before.before).held
 
 pub shape_of-ends-in-Ends : goal.shape_of-ends-in-Ends
-shape_of-ends-in-Ends c = (same c.before.before).stamps
+shape_of-ends-in-Ends c = (same c.before.before.before).stamps
 
 pub shape_of-lengths-in-Ends : goal.shape_of-lengths-in-Ends
-shape_of-lengths-in-Ends c = (same c.before.before).samples
+shape_of-lengths-in-Ends c = (same c.before.before.before).samples
 
 pub shape_of-kept-in-Ends : goal.shape_of-kept-in-Ends
-shape_of-kept-in-Ends c = (same c.before.before).keeps
+shape_of-kept-in-Ends c = (same c.before.before.before).keeps
 
 pub shape_of-frames-in-Ends : goal.shape_of-frames-in-Ends
-shape_of-frames-in-Ends c = (same c.before.before).counts
+shape_of-frames-in-Ends c = (same c.before.before.before).counts
 
 pub shape_of-out-in-Ends : goal.shape_of-out-in-Ends
-shape_of-out-in-Ends c = (same c.before.before).text
+shape_of-out-in-Ends c = (same c.before.before.before).text
 
 pub overflow_sub-turns : goal.overflow_sub-turns
-overflow_sub-turns c = omega (arith, (turn c.before.before.before).loop-turns-test.taken)
+overflow_sub-turns c = omega (arith, (turn c.before.before.before.before).loop-turns-test.taken)
 
 pub loop-turns-smaller : goal.loop-turns-smaller
-loop-turns-smaller c = omega (arith, (turn c.before.before.before).loop-turns-test.taken)
+loop-turns-smaller c = omega (arith, (turn c.before.before.before.before).loop-turns-test.taken)
 
 pub loop-turns-preserved : goal.loop-turns-preserved
-loop-turns-preserved c = same c.before.before.before
+loop-turns-preserved c = same c.before.before.before.before
 
 pub shape_of-buffer : goal.shape_of-buffer
 shape_of-buffer c = c.loop-turns.invariant.bytes

@@ -9,16 +9,26 @@ use Rattle.text_decimal.specs.Decimal.{decimal}
 use Rattle.list_entries.proofs.Reading.{whole, has}
 use Rattle.list_entries.proofs.bytes_of.Goals as goal
 use Rattle.list_entries.proofs.bytes_of.Lts as lts
+use Rattle.list_entries.proofs.bytes_of.Tie as tie
+
+abbrev After-bytes_after-bytes : Type 0
+After-bytes_after-bytes = lts.After-bytes_after tie.the-claims tie.handed_pre tie.handed_post
+
+abbrev After-shared_slice_known-1 : Type 0
+After-shared_slice_known-1 = lts.After-shared_slice_known tie.the-claims tie.handed_pre tie.handed_post
+
+abbrev Start : Type 0
+Start = lts.Start tie.the-claims tie.handed_pre tie.handed_post
 
 -- where the bytes are read
-module _ (c : lts.Else-bytes-gt16) where
-  abbrev counted : lts.After-bytes_after-bytes
+module _ (c : goal.Else-bytes-gt16) where
+  abbrev counted : After-bytes_after-bytes
   counted = c.before.before
 
-  abbrev known : lts.After-shared_slice_known-1
+  abbrev known : After-shared_slice_known-1
   known = counted.before.before.before
 
-  abbrev entry : lts.Start
+  abbrev entry : Start
   entry = known.before
 
   bytes : Octets entry.args.out.now
@@ -40,11 +50,11 @@ pub overflow_sub-result-2 : goal.overflow_sub-result-2
 overflow_sub-result-2 c = omega (arith, ends c)
 
 pub overflow_sub-next : goal.overflow_sub-next
-overflow_sub-next c = omega (arith, ends c.before.before, c.if-bytes-lt8.false)
+overflow_sub-next c = omega (arith, ends c.before.before.before, c.if-bytes-lt8.false)
 
 pub returns : goal.returns
-returns c = 
-    let e = c.before.before.before in
+returns c =
+    let e = c.before.before.before.before in
     let n = counted e in
     let a = (entry e).args in
     has a.end a.samples a.frames a.kept (entry e).requires (bytes e)

@@ -7,11 +7,11 @@ pub returns-then-c-eq0 : goal.returns-then-c-eq0
 returns-then-c-eq0 c = let k = c.args.c in rw (le-ltb 0 k.digits (omega arith))
 
 pub returns-then-end-c : goal.returns-then-end-c
-returns-then-end-c c = 
+returns-then-end-c c =
     let a = c.args in
     rw (lt-ltb 0 a.c.digits (omega arith), lt-leb a.c.base a.end (omega arith))
 
 pub returns : goal.returns
-returns c = 
+returns c =
     let a = c.args in
     rw (lt-ltb 0 a.c.digits (omega arith), le-leb a.c.base a.end (omega arith))

@@ -4,5 +4,5 @@ use Rattle.list_entries.proofs.Laying.{laid-again}
 use Rattle.list_entries.proofs.put_again.Goals as goal
 
 pub returns : goal.returns
-returns c = 
+returns c =
     laid-again c.requires c.put64.ensures c.put_last_four.ensures c.put64-2.ensures c.put64-3.ensures

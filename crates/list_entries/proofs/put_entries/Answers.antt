@@ -15,16 +15,29 @@ use Rattle.list_entries.proofs.Following.{Says, says, again, same_line, ends-wit
 use Rattle.list_entries.proofs.Lines.{Done, done-starts, same_size, all_done, no_room, one_more}
 use Rattle.list_entries.proofs.put_entries.Goals as goal
 use Rattle.list_entries.proofs.put_entries.Lts as lts
+use Rattle.list_entries.proofs.put_entries.Tie as tie
+
+abbrev At-loop-i : Type 0
+At-loop-i = lts.At-loop tie.the-claims tie.handed_pre tie.handed_post goal.the-invariant-loop-i goal.the-decreases-loop-i
+
+abbrev Start : Type 0
+Start = lts.Start tie.the-claims tie.handed_pre tie.handed_post goal.the-invariant-loop-i goal.the-decreases-loop-i
+
+abbrev After-is_again : Type 0
+After-is_again = lts.After-is_again tie.the-claims tie.handed_pre tie.handed_post goal.the-invariant-loop-i goal.the-decreases-loop-i
+
+abbrev Then-is_again : Type 0
+Then-is_again = lts.Then2 tie.the-claims tie.handed_pre tie.handed_post goal.the-invariant-loop-i goal.the-decreases-loop-i
 
 -- where a turn begins
-module _ (c : lts.In-loop-i invariant_loop decreases_loop) where
-  abbrev here : lts.At-loop-i invariant_loop decreases_loop
+module _ (c : goal.In-loop-i) where
+  abbrev here : At-loop-i
   here = c.before
 
-  abbrev sized : lts.After-least-n invariant_loop decreases_loop
+  abbrev sized : goal.After-least-n
   sized = here.before.before
 
-  abbrev entry : lts.Start invariant_loop decreases_loop
+  abbrev entry : Start
   entry = sized.before.before.before.before.before.before.before.before
 
   in_ends : here.loop-i.i < length entry.args.ends.now
@@ -40,8 +53,8 @@ module _ (c : lts.In-loop-i invariant_loop decreases_loop) where
   in_kept = omega (arith, sized.least-n.ensures, sized.least-2.ensures, c.loop-i-test.true)
 
 -- where the packet's numbers are known, and there is room for its line
-module _ (c : lts.After-is_again invariant_loop decreases_loop) where
-  abbrev turn : lts.In-loop-i invariant_loop decreases_loop
+module _ (c : After-is_again) where
+  abbrev turn : goal.In-loop-i
   turn = c.before.before.before.before.before.before.before
 
   full : ltb (length (here turn).loop-i.out - (here turn).loop-i.place) longest ≡ false
@@ -50,7 +63,7 @@ module _ (c : lts.After-is_again invariant_loop decreases_loop) where
   room : (here turn).loop-i.place + longest ≤ length (here turn).loop-i.out
   room = let left = ltb-false (length (here turn).loop-i.out - (here turn).loop-i.place) longest full in omega arith
 
-  abbrev numbers : lts.Start invariant_loop decreases_loop
+  abbrev numbers : Start
   numbers = entry turn
 
   short : let a = numbers.args in
@@ -61,7 +74,7 @@ module _ (c : lts.After-is_again invariant_loop decreases_loop) where
       entry-most _ _ _ _ (c.shared_slice_known-in-loop-i-1.given i).fits (c.shared_slice_known-in-loop-i-2-1.given i).fits
       (c.shared_slice_known-in-loop-i-3-1.given i).fits (c.shared_slice_known-in-loop-i-4-1.given i).fits
 
-told : (c : lts.Then-is_again invariant_loop decreases_loop) → let a = (numbers c.before).args in
+told : (c : Then-is_again) → let a = (numbers c.before).args in
     let at = (here (turn c.before)).loop in
     Says at.repeat (get_or a.ends.now at.i 0) (get_or a.lengths.now at.i 0) (get_or a.frames.now at.i 0)
     (get_or a.kept.now at.i 0)
@@ -74,29 +87,29 @@ pub shape_of-out-then-lacks_line : goal.shape_of-out-then-lacks_line
 shape_of-out-then-lacks_line c = same_size c.loop-i.invariant.0
 
 pub returns-then-lacks_line : goal.returns-then-lacks_line
-returns-then-lacks_line c = 
-    let turn = c.before in
+returns-then-lacks_line c =
+    let turn = c.before.before in
     no_room (here turn).loop-i.invariant.0 (in_ends turn) (in_lengths turn) (in_frames turn) (in_kept turn) (sym c.lacks_line.ensures ∙ c.if-lacks_line.true)
 
 pub put_again-place-requires : goal.put_again-place-requires
-put_again-place-requires c = again (told c.before) (room c.before.before) (here (turn c.before.before)).loop.inv.1
+put_again-place-requires c = again (told c.before.before) (room c.before.before.before) (here (turn c.before.before.before)).loop.inv.1
 
 pub loop-i-preserved-then-is_again : goal.loop-i-preserved-then-is_again
-loop-i-preserved-then-is_again c = 
-    let test = c.before.before.before.before.before in
+loop-i-preserved-then-is_again c =
+    let test = c.before.before.before.before.before.before in
     let on = turn test in
-    let line = same_line (told c.before.before.before.before) c.put_again-place.ensures in (
+    let line = same_line (told c.before.before.before.before.before) c.put_again-place.ensures in (
       one_more (here on).loop-i.inv.0 (in_ends on) (in_lengths on) (in_frames on) (in_kept on) (full test)
           line (ends-within (room test) (short test) line),
       (here on).loop-i.inv.1,
     )
 
 pub put_next-next-requires : goal.put_next-next-requires
-put_next-next-requires c = room c.before.before
+put_next-next-requires c = room c.before.before.before
 
 pub loop-i-preserved : goal.loop-i-preserved
-loop-i-preserved c = 
-    let test = c.before.before.before.before.before.before in
+loop-i-preserved c =
+    let test = c.before.before.before.before.before.before.before in
     let on = turn test in (
       one_more (here on).loop-i.inv.0 (in_ends on) (in_lengths on) (in_frames on) (in_kept on) (full test)
           c.put_next-next.ensures.laid c.put_next-next.ensures.within,
@@ -107,5 +120,5 @@ pub shape_of-out : goal.shape_of-out
 shape_of-out c = same_size c.loop-i.invariant.0
 
 pub returns : goal.returns
-returns c = 
+returns c =
     all_done c.loop-i.invariant.0 (omega (arith, c.least-n.ensures, c.least-2.ensures, c.least.ensures, c.loop-i-test.false))

@@ -14,6 +14,10 @@ use Rattle.list_headers.specs.Code.{tags_found, both_found}
 use Rattle.list_headers.specs.Writing.{BothPut}
 use Rattle.list_headers.proofs.put_both.Goals as goal
 use Rattle.list_headers.proofs.put_both.Lts as lts
+use Rattle.list_headers.proofs.put_both.Tie as tie
+
+abbrev After-slice_known-3-1 : Type 0
+After-slice_known-3-1 = lts.After-slice_known3 tie.the-claims tie.handed_pre tie.handed_post
 
 -- the answer by what was handed on
 whole : (l : Laying) (p : Pieces) (end : Bytes) → laying p end ≡ l → p.whole ≡ true → BothPut l (Written p.at) end
@@ -23,7 +27,7 @@ short : (l : Laying) (p : Pieces) (end : Bytes) → laying p end ≡ l → p.who
 short l p end e w = rw (← e) (record { told = rw w; output = refl })
 
 -- both runs of pieces
-laid_both : (c : lts.After-slice_known-3-1)
+laid_both : (c : After-slice_known-3-1)
     → laying c.put_tags-p.result c.put_tags-p.new.1.1.1.0
     ≡ lay_all (begun c.args.out.now)
     (both_found c.args.h c.args.m.now c.args.tags.now c.args.n)
@@ -35,9 +39,9 @@ laid_both c =
     ∙ sym (lay_append (begun a.out.now) (head_pieces a.h a.m.now) (tags_found a.tags.now a.n))
 
 pub returns-then-p : goal.returns-then-p
-returns-then-p c = 
-    whole _ c.put_tags-p.result c.put_tags-p.new.1.1.1.0 (laid_both c.before) c.if-p.true
+returns-then-p c =
+    whole _ c.put_tags-p.result c.put_tags-p.new.1.1.1.0 (laid_both c.before.before) c.if-p.true
 
 pub returns : goal.returns
-returns c = 
-    short _ c.put_tags-p.result c.put_tags-p.new.1.1.1.0 (laid_both c.before) c.if-p.false
+returns c =
+    short _ c.put_tags-p.result c.put_tags-p.new.1.1.1.0 (laid_both c.before.before) c.if-p.false

@@ -19,9 +19,13 @@ use Rattle.list_headers.proofs.Pieces.{some-comment}
 use Rattle.list_headers.proofs.Turns.{again, none_left, no_comments, comment-found, comment-missing, text-inside}
 use Rattle.list_headers.proofs.put_comments.Goals as goal
 use Rattle.list_headers.proofs.put_comments.Lts as lts
+use Rattle.list_headers.proofs.put_comments.Tie as tie
+
+abbrev In-Found-2 : Type 0
+In-Found-2 = lts.After-part tie.the-claims tie.handed_pre tie.handed_post goal.the-invariant-loop-left goal.the-decreases-loop-left
 
 -- the part that was found
-module _ (c : lts.In-Found-2 invariant_loop decreases_loop) where
+module _ (c : In-Found-2) where
   found : find_text c.args.b.now c.loop-left.place ≡ gives c.in-Found.part
   found = sym c.find_text.ensures ∙ ap told_part c.in-Found.is
 
@@ -29,12 +33,12 @@ pub loop-left-init : goal.loop-left-init
 loop-left-init c = (refl, refl)
 
 pub overflow_add-place : goal.overflow_add-place
-overflow_add-place c = 
-    let arm = c.before.before.before.before.before.before.before.before in
+overflow_add-place c =
+    let arm = c.before.before.before.before.before.before.before.before.before in
     omega (arith, text-inside arm.args.b.now arm.loop-left.place arm.in-Found.part (found arm))
 
 pub returns-in-Refused : goal.returns-in-Refused
-returns-in-Refused c = 
+returns-in-Refused c =
     let a = c.args in
     let refused = sym c.find_text.ensures ∙ ap told_part c.in-Refused.is in
     none_left _ _ _ (comment-missing a.b.now c.loop-left.left c.loop-left.place _ c.loop-left-test.true refused)
@@ -47,8 +51,8 @@ pub loop-left-smaller : goal.loop-left-smaller
 loop-left-smaller c = omega arith
 
 pub loop-left-preserved : goal.loop-left-preserved
-loop-left-preserved c = 
-    let arm = c.before.before.before.before in
+loop-left-preserved c =
+    let arm = c.before.before.before.before.before in
     let a = arm.args in
     let b = a.b.now in
     let part = arm.in-Found.part in
@@ -60,6 +64,6 @@ loop-left-preserved c =
     (again (laying arm.loop-left.p arm.loop-left.out) _ _ line _ _ moved next arm.loop-left.invariant.0, size ∙ arm.loop-left.invariant.1)
 
 pub returns : goal.returns
-returns c = 
+returns c =
     let b = c.args.b.now in
     none_left _ _ _ (no_comments b c.loop-left.left c.loop-left.place c.loop-left-test.false) c.loop-left.invariant.0

@@ -8,7 +8,7 @@ use Rattle.list_headers.proofs.put_counts.Goals as goal
 
 pub returns : goal.returns
 unfolding lay_all
-returns c = 
+returns c =
     let h = c.args.h in
     c.put_number.ensures
     ∙ ap (λ (l : Laying). laid l (number_line coupled_is h.coupled))

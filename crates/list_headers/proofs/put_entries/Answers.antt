@@ -22,7 +22,7 @@ pub loop-left-init : goal.loop-left-init
 loop-left-init c = (refl, (omega arith, refl))
 
 pub returns-in-Refused : goal.returns-in-Refused
-returns-in-Refused c = 
+returns-in-Refused c =
     let a = c.args in
     let refused = sym c.entry_at.ensures ∙ ap told_entry c.in-Refused.is in
     none_left _ _ _ (entry-none a.m.now c.loop-left.left c.loop-left.i _ c.loop-left-test.true refused) c.loop-left.invariant.0
@@ -37,7 +37,7 @@ pub loop-left-smaller : goal.loop-left-smaller
 loop-left-smaller c = omega arith
 
 pub loop-left-preserved : goal.loop-left-preserved
-loop-left-preserved c = 
+loop-left-preserved c =
     let a = c.args in
     let x = c.in-Entry.x in
     let kept : to_z w16 (of_z w16 x) ≡ x = search rules in
@@ -51,6 +51,6 @@ loop-left-preserved c =
     )
 
 pub returns : goal.returns
-returns c = 
+returns c =
     let m = c.args.m.now in
     none_left _ _ _ (no_entries m c.loop-left.left c.loop-left.i c.loop-left-test.false) c.loop-left.invariant.0

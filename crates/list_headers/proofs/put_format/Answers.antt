@@ -8,7 +8,7 @@ use Rattle.list_headers.proofs.put_format.Goals as goal
 
 pub returns : goal.returns
 unfolding lay_all
-returns c = 
+returns c =
     let h = c.args.h in
     c.put_number.ensures
     ∙ ap (λ (l : Laying). laid l (number_line preskip_is h.preskip))

@@ -14,7 +14,7 @@ four l a b c d = sym (lay_append l a (b ++ (c ++ d)) ∙ lay_append (lay_all l a
 
 pub returns : goal.returns
 unfolding head_pieces
-returns c = 
+returns c =
     let a = c.args in
     c.put_table.ensures
     ∙ ap (λ (l : Laying). lay_all l (table_pieces a.h a.m.now))

@@ -22,7 +22,7 @@ unfolding lay_all
 around l first es last = sym (lay_append (laid l first) es (last ∷ []))
 
 pub returns : goal.returns
-returns c = 
+returns c =
     let m = c.args.m.now in
     one_piece c.put_entries-p.result line_feed (omega arith) c.after.ensures c.put_bytes-2.ensures
     ∙ ap (λ (l : Laying). laid l line_feed)

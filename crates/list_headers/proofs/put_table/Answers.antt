@@ -9,12 +9,12 @@ use Rattle.list_headers.proofs.Pieces.{some-mapping, mapping-line}
 use Rattle.list_headers.proofs.put_table.Goals as goal
 
 pub returns-then-has_matrix : goal.returns-then-has_matrix
-returns-then-has_matrix c = 
+returns-then-has_matrix c =
     rw (sym c.has_matrix.ensures ∙ c.if-has_matrix.true) c.put_matrix.ensures
 
 pub returns : goal.returns
 unfolding lay_all
-returns c = 
+returns c =
     let a = c.args in
     let line = mapping_line (used_places a.h) in
     one_piece a.p line (some-mapping (used_places a.h)) c.after.ensures c.put_mapping.ensures

@@ -18,7 +18,7 @@ use Rattle.list_headers.proofs.put_tags.Goals as goal
 
 pub returns : goal.returns
 unfolding lay_all
-returns c = 
+returns c =
     let a = c.args in
     let b = a.b.now in
     let vendor : Bytes = bytes_of b (vendor_part b) in

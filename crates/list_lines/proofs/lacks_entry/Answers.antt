@@ -14,7 +14,7 @@ pub is_short-requires : goal.is_short-requires
 is_short-requires c = tt
 
 pub returns-then-not-is_short : goal.returns-then-not-is_short
-returns-then-not-is_short c = 
+returns-then-not-is_short c =
     let a = c.args in
     let room = ltb-false a.len (a.at + longest) (failed c.is_short.ensures c.if-not-is_short.true) in
     let size =
@@ -50,6 +50,6 @@ pub is_short-requires-2 : goal.is_short-requires-2
 is_short-requires-2 c = tt
 
 pub returns : goal.returns
-returns c = 
+returns c =
     let a = c.args in
     c.is_short-2.ensures ∙ ap (λ (n : ℕ). ltb a.len (a.at + n)) (omega (arith, length-entry a.end a.samples a.frames a.kept))

@@ -22,6 +22,6 @@ pub is_short-requires : goal.is_short-requires
 is_short-requires c = tt
 
 pub returns : goal.returns
-returns c = 
+returns c =
     let a = c.args in
     c.is_short.ensures ∙ ap (λ (n : ℕ). ltb a.len (a.at + n)) (omega (arith, length-refused a.number a.page))

@@ -10,9 +10,13 @@ use Rattle.list_lines.specs.Lines.{entry_line}
 use Rattle.list_lines.proofs.Lines.{laid-entry}
 use Rattle.list_lines.proofs.put_entry.Goals as goal
 use Rattle.list_lines.proofs.put_entry.Lts as lts
+use Rattle.list_lines.proofs.put_entry.Tie as tie
+
+abbrev Else-lacks_entry : Type 0
+Else-lacks_entry = lts.Else1 tie.the-claims tie.handed_pre tie.handed_post
 
 -- the line fits
-fits : (c : lts.Else-lacks_entry) → let a = c.args in a.at + length (entry_line a.end a.samples a.frames a.kept) ≤ length a.out.now
+fits : (c : Else-lacks_entry) → let a = c.args in a.at + length (entry_line a.end a.samples a.frames a.kept) ≤ length a.out.now
 fits c = ltb-false _ _ (sym c.lacks_entry.ensures ∙ c.if-lacks_entry.false)
 
 pub lacks_entry-requires : goal.lacks_entry-requires
@@ -37,8 +41,8 @@ pub shape_of-out : goal.shape_of-out
 shape_of-out c = omega arith
 
 pub returns : goal.returns
-returns c = 
-    let test = c.before.before in
+returns c =
+    let test = c.before.before.before in
     let a = test.args in
     put-laid (fits test)
     (laid-entry a.end a.samples a.frames a.kept

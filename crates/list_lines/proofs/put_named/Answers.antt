@@ -18,5 +18,5 @@ pub shape_of-out : goal.shape_of-out
 shape_of-out c = omega arith
 
 pub returns : goal.returns
-returns c = 
+returns c =
     laid_then (laid_as _ refl refl c.copy_at.ensures) (omega arith) c.put_decimal.ensures

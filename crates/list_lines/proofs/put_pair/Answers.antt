@@ -15,7 +15,7 @@ pub shape_of-out : goal.shape_of-out
 shape_of-out c = omega arith
 
 pub returns : goal.returns
-returns c = 
+returns c =
     let a = c.args in
     laid_next c.put_named-next.ensures c.put_named.ensures
     (omega (arith, length-append a.first.now (decimal a.x), length-append a.second.now (decimal a.y)))

@@ -12,16 +12,20 @@ use Rattle.list_lines.specs.Lines.{total_kept, and_skipped, and_trimmed, and_hol
 use Rattle.list_lines.proofs.Lines.{length-pair, length-total, laid-total}
 use Rattle.list_lines.proofs.put_total.Goals as goal
 use Rattle.list_lines.proofs.put_total.Lts as lts
+use Rattle.list_lines.proofs.put_total.Tie as tie
+
+abbrev Else-lacks_total : Type 0
+Else-lacks_total = lts.Else1 tie.the-claims tie.handed_pre tie.handed_post
 
 -- the line fits
-tested : (c : lts.Else-lacks_total) → let a = c.args in ltb (length a.out.now) (a.at + length (total_line a.kept a.skipped a.trimmed a.hole)) ≡ false
+tested : (c : Else-lacks_total) → let a = c.args in ltb (length a.out.now) (a.at + length (total_line a.kept a.skipped a.trimmed a.hole)) ≡ false
 tested c = sym c.lacks_total.ensures ∙ c.if-lacks_total.false
 
-fits : (c : lts.Else-lacks_total) → let a = c.args in a.at + length (total_line a.kept a.skipped a.trimmed a.hole) ≤ length a.out.now
+fits : (c : Else-lacks_total) → let a = c.args in a.at + length (total_line a.kept a.skipped a.trimmed a.hole) ≤ length a.out.now
 fits c = ltb-false _ _ (tested c)
 
 -- there is room for the line feed
-room : (c : lts.After-slice_known-3-1) → c.put_pair-last.result + 1 ≤ length c.put_pair-last.new.0
+room : (c : goal.After-slice_known-3-1) → c.put_pair-last.result + 1 ≤ length c.put_pair-last.new.0
 room c =
     let a = c.args in
     omega (
@@ -39,16 +43,16 @@ pub returns-then-lacks_total : goal.returns-then-lacks_total
 returns-then-lacks_total c = put-none (sym c.lacks_total.ensures ∙ c.if-lacks_total.true)
 
 pub put_pair-middle-requires : goal.put_pair-middle-requires
-put_pair-middle-requires c = 
+put_pair-middle-requires c =
     let a = c.args in
-    omega (arith, fits c.before.before.before, length-total a.kept a.skipped a.trimmed a.hole)
+    omega (arith, fits c.before.before.before.before, length-total a.kept a.skipped a.trimmed a.hole)
 
 pub put_pair-last-requires : goal.put_pair-last-requires
-put_pair-last-requires c = 
+put_pair-last-requires c =
     let a = c.args in
     omega (
       arith,
-      fits c.before.before.before.before.before.before.before.before.before,
+      fits c.before.before.before.before.before.before.before.before.before.before,
       length-total a.kept a.skipped a.trimmed a.hole,
       length-pair total_kept and_skipped a.kept a.skipped,
     )
@@ -63,8 +67,8 @@ pub shape_of-out : goal.shape_of-out
 shape_of-out c = simp length-set (omega arith)
 
 pub returns : goal.returns
-returns c = 
-    let test = c.before.before.before.before in
+returns c =
+    let test = c.before.before.before.before.before in
     let a = test.args in
     put_all (tested test)
     (laid-total a.kept a.skipped a.trimmed a.hole c.put_pair-middle.ensures c.put_pair-last.ensures

@@ -18,7 +18,7 @@ room {x} {j} h l = lt_of_lt_of_le h (pow-le-pow_right {n = 256} (omega arith) {i
 
 pub returns-then-s-at : goal.returns-then-s-at
 unfolding number value
-returns-then-s-at c = 
+returns-then-s-at c =
     let a = c.args in
     let none : drop a.at a.s.now ≡ [] = drop_of_length-le a.s.now c.if-s-at.true in
     let e : take a.n (drop a.at a.s.now) ≡ [] = ap (take a.n) none ∙ take-nil a.n in
@@ -50,7 +50,7 @@ pub loop-j-smaller : goal.loop-j-smaller
 loop-j-smaller c = omega arith
 
 pub loop-j-preserved : goal.loop-j-preserved
-loop-j-preserved c = 
+loop-j-preserved c =
     let a = c.args in
     let l = c.loop-j in
     let p : ℕ = 256 ^ l.j in
@@ -65,7 +65,7 @@ loop-j-preserved c =
 
 pub returns : goal.returns
 unfolding number
-returns c = 
+returns c =
     let a = c.args in
     let l = c.loop-j in
     let all : l.j ≡ a.n = omega arith in

@@ -8,12 +8,12 @@ use borrow.Author.Rules.{rules}
 use Rattle.number_writer.proofs.put_number.Goals as goal
 
 pub slice_bounds-copy_at-end : goal.slice_bounds-copy_at-end
-slice_bounds-copy_at-end c = 
+slice_bounds-copy_at-end c =
     let e = ap length c.octets64-b.ensures ∙ length-octets 8 c.args.x in
     simp length-take (omega (arith, e))
 
 pub returns : goal.returns
-returns c = 
+returns c =
     let a = c.args in
     c.copy_at.ensures
     ∙ ap (λ (s : Bytes). copied a.d.now a.at (take a.n s)) c.octets64-b.ensures

@@ -45,7 +45,7 @@ pub bounds-s-i : goal.bounds-s-i
 bounds-s-i c = omega arith
 
 pub returns-then-p-i : goal.returns-then-p-i
-returns-then-p-i c = 
+returns-then-p-i c =
     let a = c.args in
     sym (other a.p.now a.s.now c.loop-i.i (omega arith) (omega arith) c.if-p-i.true) ∙ c.loop-i.invariant.0
 
@@ -56,7 +56,7 @@ pub loop-i-smaller : goal.loop-i-smaller
 loop-i-smaller c = omega arith
 
 pub loop-i-preserved : goal.loop-i-preserved
-loop-i-preserved c = 
+loop-i-preserved c =
     let a = c.args in
     (same a.p.now a.s.now c.loop-i.i (omega arith) (omega arith) c.if-p-i.false ∙ c.loop-i.invariant.0, omega arith)
 

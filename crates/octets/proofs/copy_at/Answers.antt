@@ -11,12 +11,12 @@ use Rattle.octets.proofs.Copying.{copied-fits, copied-short}
 use Rattle.octets.proofs.copy_at.Goals as goal
 
 pub returns-then-is_short : goal.returns-then-is_short
-returns-then-is_short c = 
+returns-then-is_short c =
     let a = c.args in
     sym (copied-short a.d.now a.at a.s.now (is_below c.is_short.ensures c.if-is_short.true))
 
 pub loop-j-init : goal.loop-j-init
-loop-j-init c = 
+loop-j-init c =
     let a = c.args in
     (paste-zero a.d.now a.at a.s.now, omega arith, omega arith, not-below c.is_short.ensures c.if-is_short.false)
 
@@ -36,7 +36,7 @@ pub loop-j-smaller : goal.loop-j-smaller
 loop-j-smaller c = omega arith
 
 pub loop-j-preserved : goal.loop-j-preserved
-loop-j-preserved c = 
+loop-j-preserved c =
     let a = c.args in
     let l = c.loop-j in
     let step : set l.d (a.at + l.j) (get_or a.s.now l.j 0) ≡ paste a.d.now a.at a.s.now (l.j + 1) =
@@ -47,7 +47,7 @@ pub shape_of-d : goal.shape_of-d
 shape_of-d c = c.loop-j.invariant.2
 
 pub returns : goal.returns
-returns c = 
+returns c =
     let a = c.args in
     let l = c.loop-j in
     let all : l.j ≡ length a.s.now = omega arith in

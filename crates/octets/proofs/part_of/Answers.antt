@@ -15,6 +15,6 @@ cut s at n a m ha hm =
     ap (λ (t : Bytes). take (a + m - a) t) (ap (λ (k : ℕ). drop k s) ha ∙ drop_min at s) ∙ ap (λ (k : ℕ). take k (drop at s)) size ∙ take_min n (drop at s)
 
 pub returns : goal.returns
-returns c = 
+returns c =
     let a = c.args in
     cut a.s.now a.at a.n c.least-start.result c.least.result c.least-start.ensures c.least.ensures

@@ -8,7 +8,7 @@ pub returns-then-s-at : goal.returns-then-s-at
 returns-then-s-at c = let a = c.args in record { told = coded-end a.s.now a.at c.if-s-at.true; within = tt }
 
 pub returns-then-first-lt252 : goal.returns-then-first-lt252
-returns-then-first-lt252 c = 
+returns-then-first-lt252 c =
     let first = c.wide-first in
     let a = c.args in
     record {
@@ -17,7 +17,7 @@ returns-then-first-lt252 c =
     }
 
 pub returns-then-s-at-lt2 : goal.returns-then-s-at-lt2
-returns-then-s-at-lt2 c = 
+returns-then-s-at-lt2 c =
     let first = c.wide-first in
     let a = c.args in
     record {
@@ -26,7 +26,7 @@ returns-then-s-at-lt2 c =
     }
 
 pub returns : goal.returns
-returns c = 
+returns c =
     let first = c.wide-first in
     let a = c.args in
     let second = c.wide-second in

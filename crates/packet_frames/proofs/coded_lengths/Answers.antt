@@ -11,7 +11,7 @@ use Rattle.packet_frames.proofs.CodedLengths.{missing, found, plus, times_begin,
 use Rattle.packet_frames.proofs.coded_lengths.Goals as goal
 
 pub loop-i-init : goal.loop-i-init
-loop-i-init c = 
+loop-i-init c =
     let a = c.args in
     (times_begin a.n (drop a.at a.s.now), omega arith, omega arith, omega arith)
 
@@ -19,7 +19,7 @@ pub coded_length-requires : goal.coded_length-requires
 coded_length-requires c = tt
 
 pub returns-in_default : goal.returns-in_default
-returns-in_default c = 
+returns-in_default c =
     let l = c.loop-i in
     let a = c.args in
     let none = missing a.s.now frame_max c.in_default.is c.coded_length.ensures in
@@ -29,7 +29,7 @@ returns-in_default c =
     }
 
 pub overflow_add-sum : goal.overflow_add-sum
-overflow_add-sum c = 
+overflow_add-sum c =
     let a = c.args in
     let one = found a.s.now frame_max c.in-Value.is c.coded_length.ensures in
     omega arith
@@ -41,7 +41,7 @@ pub loop-i-smaller : goal.loop-i-smaller
 loop-i-smaller c = omega arith
 
 pub loop-i-preserved : goal.loop-i-preserved
-loop-i-preserved c = 
+loop-i-preserved c =
     let got = c.in-Value.length-1.given in
     let l = c.loop-i in
     let a = c.args in
@@ -54,7 +54,7 @@ loop-i-preserved c =
     )
 
 pub returns : goal.returns
-returns c = 
+returns c =
     let l = c.loop-i in
     let a = c.args in
     record {

@@ -15,9 +15,16 @@ use Rattle.packet_frames.proofs.Samples.{product}
 use Rattle.packet_frames.proofs.Shapes.{some, bounded, no_count, no_frames, too_much, unpadded, with_padding, padded_by}
 use Rattle.packet_frames.proofs.counted_layout.Goals as goal
 use Rattle.packet_frames.proofs.counted_layout.Lts as lts
+use Rattle.packet_frames.proofs.counted_layout.Tie as tie
+
+abbrev After-frame_samples-samples : Type 0
+After-frame_samples-samples = lts.After-frame_samples tie.the-claims tie.handed_pre tie.handed_post
+
+abbrev After-padding_length : Type 0
+After-padding_length = lts.After-padding_length tie.the-claims tie.handed_pre tie.handed_post
 
 -- the count byte and the frame's samples, where both are known
-module _ (c : lts.After-frame_samples-samples) where
+module _ (c : After-frame_samples-samples) where
   abbrev packet : Bytes
   packet = c.args.s.now
 
@@ -28,8 +35,8 @@ module _ (c : lts.After-frame_samples-samples) where
   long = c.if-s-lt2.false
 
 -- the padding as it was found
-module _ (c : lts.After-padding_length) where
-  abbrev counted : lts.After-frame_samples-samples
+module _ (c : After-padding_length) where
+  abbrev counted : After-frame_samples-samples
   counted = c.before.before.before.before
 
   found : {r : Read ℕ} → told_found (packet counted) c.padding_length.result ≡ r
@@ -45,18 +52,18 @@ pub returns-then-s-lt2 : goal.returns-then-s-lt2
 returns-then-s-lt2 c = let s = c.args.s.now in record { told = sym (no_count (length s) s c.if-s-lt2.true); sound = tt }
 
 pub returns-then-count-eq0 : goal.returns-then-count-eq0
-returns-then-count-eq0 c = 
-    let f = c.before in
+returns-then-count-eq0 c =
+    let f = c.before.before in
     record { told = sym (no_frames (length (packet f)) (packet f) (long f) (rw (byte f) at c.if-count-eq0.true)); sound = tt }
 
 pub overflow_mul-count : goal.overflow_mul-count
-overflow_mul-count c = 
-    let f = c.before in
+overflow_mul-count c =
+    let f = c.before.before in
     record { fits = lt_of_le_of_lt (product (omega arith) (rw (← f.frame_samples-samples.ensures) at (frame-length (get_or (packet f) 0 0)).most)) (lit< tt) }
 
 pub returns-then-count-samples-gt-SAMPLES_MAX : goal.returns-then-count-samples-gt-SAMPLES_MAX
-returns-then-count-samples-gt-SAMPLES_MAX c = 
-    let f = c.before.before in
+returns-then-count-samples-gt-SAMPLES_MAX c =
+    let f = c.before.before.before in
     record {
       told =
           sym
@@ -66,8 +73,8 @@ returns-then-count-samples-gt-SAMPLES_MAX c =
     }
 
 pub returns-then-c-ne1 : goal.returns-then-c-ne1
-returns-then-c-ne1 c = 
-    let f = c.before.before.before in
+returns-then-c-ne1 c =
+    let f = c.before.before.before.before in
     record {
       told =
           rw (byte f)
@@ -78,13 +85,13 @@ returns-then-c-ne1 c =
     }
 
 pub returns-in_default : goal.returns-in_default
-returns-in_default c = 
-    let p = c.before.before in
+returns-in_default c =
+    let p = c.before.before.before in
     record { told = found p (ap (told_found (packet (counted p))) c.in_default.is); sound = tt }
 
 pub returns : goal.returns
-returns c = 
-    let p = c.before.before.before in
+returns c =
+    let p = c.before.before.before.before in
     let f = counted p in
     let e = c.in-Value.is in
     let within = rw e at p.padding_length.ensures.within in

@@ -9,7 +9,7 @@ use Rattle.packet_frames.proofs.Framing.{each-cut, each_placed, all-cut, all_pla
 use Rattle.packet_frames.proofs.delimited_frames.Goals as goal
 
 pub returns-in_default : goal.returns-in_default
-returns-in_default c = 
+returns-in_default c =
     let a = c.args in
     let s = a.s.now in
     record {
@@ -20,13 +20,13 @@ returns-in_default c =
     }
 
 pub placed_frames-requires : goal.placed_frames-requires
-placed_frames-requires c = 
+placed_frames-requires c =
     let a = c.args in
     let some = found a.s.now 80325 c.in-Value.is c.coded_lengths.ensures in
     record { few = c.requires.few; inside = some.within.inside }
 
 pub returns-then-vary : goal.returns-then-vary
-returns-then-vary c = 
+returns-then-vary c =
     let a = c.args in
     let s = a.s.now in
     let some = found s 80325 c.in-Value.is c.coded_lengths.ensures in
@@ -38,7 +38,7 @@ returns-then-vary c =
     }
 
 pub returns-in_default-coded_length : goal.returns-in_default-coded_length
-returns-in_default-coded_length c = 
+returns-in_default-coded_length c =
     let a = c.args in
     let s = a.s.now in
     record {
@@ -49,20 +49,20 @@ returns-in_default-coded_length c =
     }
 
 pub overflow_mul-count : goal.overflow_mul-count
-overflow_mul-count c = 
+overflow_mul-count c =
     let a = c.args in
     let one = found a.s.now frame_max c.in-Value-coded_length.is c.coded_length.ensures in
     let most : a.count * c.in-Value-coded_length.length ≤ 63 * frame_max = mul-le-mul c.requires.few one.within.most in
     omega arith
 
 pub placed_frames-requires-2 : goal.placed_frames-requires-2
-placed_frames-requires-2 c = 
+placed_frames-requires-2 c =
     let a = c.args in
     let one = found a.s.now frame_max c.in-Value-coded_length.is c.coded_length.ensures in
     record { few = c.requires.few; inside = one.within.inside }
 
 pub returns : goal.returns
-returns c = 
+returns c =
     let a = c.args in
     let s = a.s.now in
     let one = found s frame_max c.in-Value-coded_length.is c.coded_length.ensures in

@@ -8,12 +8,12 @@ pub returns-then-room-padding : goal.returns-then-room-padding
 returns-then-room-padding c = let a = c.args in record { told = equal-short a.s.now a.at a.count a.padding c.if-room-padding.true; within = tt }
 
 pub returns-then-bytes-count-ne0 : goal.returns-then-bytes-count-ne0
-returns-then-bytes-count-ne0 c = 
+returns-then-bytes-count-ne0 c =
     let a = c.args in
     record { told = equal_uneven a.s.now a.at a.count a.padding c.if-room-padding.false c.if-bytes-count-ne0.true; within = tt }
 
 pub returns-then-bytes-count-gt-FRAME_MAX : goal.returns-then-bytes-count-gt-FRAME_MAX
-returns-then-bytes-count-gt-FRAME_MAX c = 
+returns-then-bytes-count-gt-FRAME_MAX c =
     let a = c.args in
     record {
       told = equal-long a.s.now a.at a.count a.padding c.if-room-padding.false c.if-bytes-count-ne0.false c.if-bytes-count-gt-FRAME_MAX.true;
@@ -21,7 +21,7 @@ returns-then-bytes-count-gt-FRAME_MAX c =
     }
 
 pub returns : goal.returns
-returns c = 
+returns c =
     let a = c.args in
     record {
       told = equal-fits a.s.now a.at a.count a.padding c.if-room-padding.false c.if-bytes-count-ne0.false c.if-bytes-count-gt-FRAME_MAX.false;

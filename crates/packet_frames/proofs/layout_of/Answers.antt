@@ -11,7 +11,7 @@ pub returns-then-s-eq0 : goal.returns-then-s-eq0
 returns-then-s-eq0 c = let s = c.args.s.now in record { told = sym (nothing (length s) s c.if-s-eq0.true); sound = tt }
 
 pub returns-in-0 : goal.returns-in-0
-returns-in-0 c = 
+returns-in-0 c =
     let s = c.args.s.now in
     record {
       told = sym (code_0 (length s) s (some c.if-s-eq0.false) c.in-0.is);
@@ -19,7 +19,7 @@ returns-in-0 c =
     }
 
 pub returns-in-1 : goal.returns-in-1
-returns-in-1 c = 
+returns-in-1 c =
     let s = c.args.s.now in
     record {
       told = sym (code_1 (length s) s (some c.if-s-eq0.false) c.in-1.is);
@@ -27,7 +27,7 @@ returns-in-1 c =
     }
 
 pub returns-in-2 : goal.returns-in-2
-returns-in-2 c = 
+returns-in-2 c =
     let s = c.args.s.now in
     record {
       told = sym (code_2 (length s) s (some c.if-s-eq0.false) c.in-2.is);
@@ -35,7 +35,7 @@ returns-in-2 c =
     }
 
 pub returns-in_default : goal.returns-in_default
-returns-in_default c = 
+returns-in_default c =
     let s = c.args.s.now in
     let r = c.in_default.in_default-own.rest in
     let counted = c.counted_layout.ensures in

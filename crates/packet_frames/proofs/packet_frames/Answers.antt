@@ -11,9 +11,13 @@ use Rattle.packet_frames.specs.Code.{plain, told_layout, FramesIn, frames_in, Ou
 use Rattle.packet_frames.proofs.Outlines.{outlined}
 use Rattle.packet_frames.proofs.packet_frames.Goals as goal
 use Rattle.packet_frames.proofs.packet_frames.Lts as lts
+use Rattle.packet_frames.proofs.packet_frames.Tie as tie
+
+abbrev In-Frames-2 : Type 0
+In-Frames-2 = lts.After-layout tie.the-claims tie.handed_pre tie.handed_post
 
 -- what is known of the layout where its fields are bound
-module _ (c : lts.In-Frames-2) where
+module _ (c : In-Frames-2) where
   abbrev packet : Bytes
   packet = c.args.s.now
 
@@ -35,11 +39,11 @@ module _ (c : lts.In-Frames-2) where
       ∙ ap (λ (self : Bool). outline (parse self packet)) (sym d)
 
 pub delimited_frames-requires : goal.delimited_frames-requires
-delimited_frames-requires c = let k = sound c.before.before in record { few = k.few; inside = k.inside }
+delimited_frames-requires c = let k = sound c.before.before.before in record { few = k.few; inside = k.inside }
 
 pub returns-then-delimited : goal.returns-then-delimited
-returns-then-delimited c = 
-    let l = c.before.before.before in
+returns-then-delimited c =
+    let l = c.before.before.before.before in
     record {
       told =
           c.delimited_frames.ensures.told
@@ -49,19 +53,19 @@ returns-then-delimited c =
     }
 
 pub varied_frames-requires : goal.varied_frames-requires
-varied_frames-requires c = let k = sound c.before.before.before in record { some = k.some; few = k.few; inside = k.inside }
+varied_frames-requires c = let k = sound c.before.before.before.before in record { some = k.some; few = k.few; inside = k.inside }
 
 pub returns-then-vary : goal.returns-then-vary
-returns-then-vary c = 
-    let l = c.before.before.before.before in
+returns-then-vary c =
+    let l = c.before.before.before.before.before in
     let call = c.varied_frames.ensures in
     record { told = plainly l c.if-delimited.false c.if-vary.true call.told; within = call.within }
 
 pub equal_frames-requires : goal.equal_frames-requires
-equal_frames-requires c = let k = sound c.before.before.before in record { some = k.some; few = k.few; inside = k.inside }
+equal_frames-requires c = let k = sound c.before.before.before.before in record { some = k.some; few = k.few; inside = k.inside }
 
 pub returns-in-Illegal : goal.returns-in-Illegal
-returns-in-Illegal c = 
+returns-in-Illegal c =
     let s = c.args.s.now in
     let d = c.args.delimited in
     let call = c.layout_of-layout in
@@ -73,7 +77,7 @@ returns-in-Illegal c =
     }
 
 pub returns-else-vary : goal.returns-else-vary
-returns-else-vary c = 
-    let l = c.before.before.before.before in
+returns-else-vary c =
+    let l = c.before.before.before.before.before in
     let call = c.equal_frames.ensures in
     record { told = plainly l c.if-delimited.false c.if-vary.false call.told; within = call.within }

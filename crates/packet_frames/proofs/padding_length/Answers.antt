@@ -9,11 +9,16 @@ use Rattle.packet_frames.specs.Code.{capped, padding_in}
 use Rattle.packet_frames.proofs.CodedLengths.{Padding, padding-cut, padding-ends, padding-over, padding-goes_on, padding-above}
 use Rattle.packet_frames.proofs.padding_length.Reads as reads
 use Rattle.packet_frames.proofs.padding_length.Lts as lts
+use Rattle.packet_frames.proofs.padding_length.Tie as tie
 use Rattle.octets.proofs.wide.Reads as wide-reads
 use Rattle.packet_frames.proofs.padding_length.Goals as goal
 use Rattle.packet_frames.proofs.padding_length.Lts as lts
+use Rattle.packet_frames.proofs.padding_length.Tie as tie
 
-turn : (w : lts.After-wide (wide-reads.Asked, wide-reads.Learnt) reads.Pre reads.Post invariant_loop decreases_loop)
+abbrev After-wide-v : Type 0
+After-wide-v = lts.After-wide tie.the-claims tie.handed_pre tie.handed_post goal.the-invariant-loop-place goal.the-decreases-loop-place
+
+turn : (w : After-wide-v (wide-reads.Asked, wide-reads.Learnt) reads.Pre reads.Post invariant_loop decreases_loop)
     → let l = w.before.before.before.loop in
     let a = w.before.before.before.before.before.args in
     let s = a.s.now in
@@ -36,28 +41,28 @@ pub overflow_add-bytes : goal.overflow_add-bytes
 overflow_add-bytes c = omega arith
 
 pub returns-then-s-bytes : goal.returns-then-s-bytes
-returns-then-s-bytes c = record { told = padding-over (turn c.before.before) c.if-v-lt255.true c.if-s-bytes.true; within = tt }
+returns-then-s-bytes c = record { told = padding-over (turn c.before.before.before) c.if-v-lt255.true c.if-s-bytes.true; within = tt }
 
 pub overflow_add-result : goal.overflow_add-result
 overflow_add-result c = omega arith
 
 pub returns-then-v-lt255 : goal.returns-then-v-lt255
-returns-then-v-lt255 c = record { told = padding-ends (turn c.before.before) c.if-v-lt255.true c.if-s-bytes.false; within = omega arith }
+returns-then-v-lt255 c = record { told = padding-ends (turn c.before.before.before) c.if-v-lt255.true c.if-s-bytes.false; within = omega arith }
 
 pub overflow_add-bytes-in-loop-place : goal.overflow_add-bytes-in-loop-place
 overflow_add-bytes-in-loop-place c = omega arith
 
 pub returns-then-s-bytes-2 : goal.returns-then-s-bytes-2
-returns-then-s-bytes-2 c = record { told = padding-above (turn c.before.before) c.if-v-lt255.false c.if-s-bytes-2.true; within = tt }
+returns-then-s-bytes-2 c = record { told = padding-above (turn c.before.before.before) c.if-v-lt255.false c.if-s-bytes-2.true; within = tt }
 
 pub loop-place-smaller : goal.loop-place-smaller
 loop-place-smaller c = omega arith
 
 pub loop-place-preserved : goal.loop-place-preserved
-loop-place-preserved c = (padding-goes_on (turn c.before.before) c.if-v-lt255.false, c.if-s-bytes-2.false)
+loop-place-preserved c = (padding-goes_on (turn c.before.before.before) c.if-v-lt255.false, c.if-s-bytes-2.false)
 
 pub returns : goal.returns
-returns c = 
+returns c =
     let l = c.loop-place in
     let s = c.args.s.now in
     record { told = sym (padding-cut s (length s) l.bytes l.place c.loop-place-test.false) ∙ l.invariant.0; within = tt }

@@ -8,8 +8,12 @@ use Rattle.packet_frames.proofs.CodedLengths.{missing, found}
 use Rattle.packet_frames.proofs.Framing.{Others, last-cut, last-short, last-long, last_fits}
 use Rattle.packet_frames.proofs.varied_frames.Goals as goal
 use Rattle.packet_frames.proofs.varied_frames.Lts as lts
+use Rattle.packet_frames.proofs.varied_frames.Tie as tie
 
-others : (w : lts.In-Value-2)
+abbrev In-Value-2 : Type 0
+In-Value-2 = lts.After-sum tie.the-claims tie.handed_pre tie.handed_post
+
+others : (w : In-Value-2)
     → let a = w.args in
     let got = w.in-Value.sum-1.given.0 in
     Others a.s.now a.at a.count a.padding got.0 got.1.0
@@ -18,7 +22,7 @@ others w =
     record { some = w.requires.some; inside = told.within.inside; read = told.told }
 
 -- the other frames and the padding are there
-room : (c : lts.Else-is_short)
+room : (c : goal.Else-is_short)
     →
     let a = c.args in
     let got = c.in-Value.sum-1.given.0 in
@@ -26,17 +30,17 @@ room : (c : lts.Else-is_short)
 room c = not-below c.is_short.ensures c.if-is_short.false
 
 pub returns-in_default : goal.returns-in_default
-returns-in_default c = 
+returns-in_default c =
     let a = c.args in
     let none = missing a.s.now 80325 c.in_default.is c.coded_lengths.ensures in
     record { told = last-cut a.s.now a.at a.count a.padding none; within = tt }
 
 pub overflow_sub-room : goal.overflow_sub-room
-overflow_sub-room c = (others c.before).inside
+overflow_sub-room c = (others c.before.before).inside
 
 pub returns-then-is_short : goal.returns-then-is_short
-returns-then-is_short c = 
-    let w = c.before.before.before in
+returns-then-is_short c =
+    let w = c.before.before.before.before in
     let a = w.args in
     let got = w.in-Value.sum-1.given.0 in
     let short : length a.s.now - got.1.0 < a.padding + got.0 = is_below c.is_short.ensures c.if-is_short.true in
@@ -49,13 +53,13 @@ pub overflow_sub-room-3 : goal.overflow_sub-room-3
 overflow_sub-room-3 c = omega (arith, room c)
 
 pub returns-then-room-padding-gt-FRAME_MAX : goal.returns-then-room-padding-gt-FRAME_MAX
-returns-then-room-padding-gt-FRAME_MAX c = 
-    let w = c.before.before.before.before in
-    let fit = room c.before in
+returns-then-room-padding-gt-FRAME_MAX c =
+    let w = c.before.before.before.before.before in
+    let fit = room c.before.before in
     record { told = last-long (others w) (omega arith) (omega (arith, c.if-room-padding-gt-FRAME_MAX.true)); within = tt }
 
 pub returns : goal.returns
-returns c = 
-    let w = c.before.before.before.before in
-    let fit = room c.before in
+returns c =
+    let w = c.before.before.before.before.before in
+    let fit = room c.before.before in
     record { told = last_fits (others w) (omega arith) (omega (arith, c.if-room-padding-gt-FRAME_MAX.false)); within = omega arith }

@@ -14,10 +14,14 @@ use Rattle.packet_reader.specs.Code.{made_of}
 use Rattle.packet_reader.proofs.Agreement.{unframed, frames-told, frames-within, no_contents_lem, its_contents}
 use Rattle.packet_reader.proofs.read_opus.Goals as goal
 use Rattle.packet_reader.proofs.read_opus.Lts as lts
+use Rattle.packet_reader.proofs.read_opus.Tie as tie
+
+abbrev In-Frames-2 : Type 0
+In-Frames-2 = lts.After-count tie.the-claims tie.handed_pre tie.handed_post
 
 -- the frames that were found
-module _ (c : lts.In-Frames-2) where
-  abbrev first : lts.After-byte_at-toc
+module _ (c : In-Frames-2) where
+  abbrev first : goal.After-byte_at-toc
   first = c.before.before.before
 
   abbrev packet : Bytes
@@ -27,20 +31,20 @@ module _ (c : lts.In-Frames-2) where
   within = frames-within packet c.packet_frames.ensures c.in-Frames.is
 
 pub returns-in_default : goal.returns-in_default
-returns-in_default c = 
+returns-in_default c =
     let a = c.args in
     let none = unframed a.s.now c.packet_frames.ensures c.in_default.is in
     record { told = no_contents_lem a.s.now (parse a.delimited a.s.now) none; inside = tt }
 
 pub overflow_cast-count : goal.overflow_cast-count
-overflow_cast-count c = record { fits = lt_of_le_of_lt (within c.before).most (lit< tt) }
+overflow_cast-count c = record { fits = lt_of_le_of_lt (within c.before.before).most (lit< tt) }
 
 pub made_of-requires : goal.made_of-requires
-made_of-requires c = (within c.before).most
+made_of-requires c = (within c.before.before).most
 
 pub returns : goal.returns
-returns c = 
-    let k = c.before.before in
+returns c =
+    let k = c.before.before.before in
     let a = (first k).args in
     let got = k.in-Frames.count-1.given in
     let end : Bytes = drop got.0.1.1.0 (packet k) in

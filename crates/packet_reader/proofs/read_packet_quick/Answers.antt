@@ -11,7 +11,7 @@ use Rattle.packet_reader.proofs.Single.{reads-single}
 use Rattle.packet_reader.proofs.read_packet_quick.Goals as goal
 
 pub returns-then-is_single : goal.returns-then-is_single
-returns-then-is_single c = 
+returns-then-is_single c =
     let a = c.args in
     let told = reads-single a.bytes.now (sym c.is_single.ensures ∙ c.if-is_single.true) in
     let size : ℕ = length a.bytes.now in

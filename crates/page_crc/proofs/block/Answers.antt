@@ -25,7 +25,7 @@ pub loop-j-smaller : goal.loop-j-smaller
 loop-j-smaller c = omega arith
 
 pub loop-j-preserved : goal.loop-j-preserved
-loop-j-preserved c = 
+loop-j-preserved c =
     block_turn (omega arith) (omega arith) c.loop-j.invariant c.met-b.ensures.byte c.entry-y.ensures
 
 pub returns : goal.returns

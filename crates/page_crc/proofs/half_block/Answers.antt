@@ -26,7 +26,7 @@ pub loop-j-smaller : goal.loop-j-smaller
 loop-j-smaller c = omega arith
 
 pub loop-j-preserved : goal.loop-j-preserved
-loop-j-preserved c = 
+loop-j-preserved c =
     let old = c.loop-j.invariant.0 in
     (block_turn (omega arith) (omega arith) old c.met-b.ensures.byte c.half_entry-y.ensures, omega arith)
 
@@ -49,7 +49,7 @@ pub loop-j-2-smaller : goal.loop-j-2-smaller
 loop-j-2-smaller c = omega arith
 
 pub loop-j-2-preserved : goal.loop-j-2-preserved
-loop-j-2-preserved c = 
+loop-j-2-preserved c =
     block_turn (omega arith) (omega arith) c.loop-j-2.invariant c.met-b-in-loop-j-2.ensures.byte
     c.half_entry-y-in-loop-j-2.ensures
 

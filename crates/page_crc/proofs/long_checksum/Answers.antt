@@ -6,7 +6,7 @@ use Rattle.page_crc.proofs.Slice.{sliced_right}
 use Rattle.page_crc.proofs.long_checksum.Goals as goal
 
 pub returns : goal.returns
-returns c = 
+returns c =
     c.update.ensures
     ∙ sliced_right _ c.tables-tables.ensures c.args.s.now
     (record { below = λ i. (c.shared_slice_known-1.given i).fits }) 0 (lit< tt)

@@ -5,7 +5,7 @@ use Rattle.page_crc.proofs.Page.{page_sliced_right}
 use Rattle.page_crc.proofs.long_page_checksum.Goals as goal
 
 pub returns : goal.returns
-returns c = 
+returns c =
     c.page_checksum_with.ensures
     ∙ page_sliced_right _ c.tables-tables.ensures c.args.page.now
     (record { below = λ i. (c.shared_slice_known-1.given i).fits })

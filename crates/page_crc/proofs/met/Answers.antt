@@ -7,9 +7,13 @@ use lib.Bits.{bit_xor, xor_lt}
 use lib.ListN.{get_or}
 use Rattle.page_crc.proofs.met.Goals as goal
 use Rattle.page_crc.proofs.met.Lts as lts
+use Rattle.page_crc.proofs.met.Tie as tie
 
-module _ (c : lts.After-shared_slice_known-2-1) where
-  abbrev start : lts.Start
+abbrev Start : Type 0
+Start = lts.Start tie.the-claims tie.handed_pre tie.handed_post
+
+module _ (c : goal.After-shared_slice_known-2-1) where
+  abbrev start : Start
   start = c.before.before.before
 
   abbrev found : ℕ

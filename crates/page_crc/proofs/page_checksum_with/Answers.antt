@@ -7,7 +7,7 @@ use Rattle.page_crc.proofs.Page.{parts, whole}
 use Rattle.page_crc.proofs.page_checksum_with.Goals as goal
 
 pub returns-then-page-ge-CHECKSUM_END : goal.returns-then-page-ge-CHECKSUM_END
-returns-then-page-ge-CHECKSUM_END c = 
+returns-then-page-ge-CHECKSUM_END c =
     whole _ c.args.page.now (omega arith) c.head_checksum-head.ensures c.update.ensures
 
 pub slice_bounds-update-end-2 : goal.slice_bounds-update-end-2
@@ -17,6 +17,6 @@ pub slice_bounds-update-length-2 : goal.slice_bounds-update-length-2
 slice_bounds-update-length-2 c = simp length-take (omega arith)
 
 pub returns : goal.returns
-returns c = 
+returns c =
     parts _ c.args.page.now c.least-a.ensures c.least-b.ensures
     c.update-head.ensures c.update-field.ensures c.update-2.ensures

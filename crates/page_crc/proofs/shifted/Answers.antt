@@ -24,7 +24,7 @@ unfolding moved
 returns-in-3 c = let e : c.args.k ≡ 3 = omega arith in rw e
 
 pub returns-in_default : goal.returns-in_default
-returns-in_default c = 
+returns-in_default c =
     let k : ℕ = c.args.k in
     let e : k ≡ 4 + (k - 4) = omega arith in
     sym (ap (moved c.args.x) e ∙ moved_out (k - 4) c.args.x (omega arith))

@@ -7,7 +7,7 @@ use Rattle.page_crc.proofs.Slice.{sliced_right}
 use Rattle.page_crc.proofs.short_checksum.Goals as goal
 
 pub returns : goal.returns
-returns c = 
+returns c =
     c.half_update.ensures
     ∙ sliced_right _ (whole_by_halves _ c.halves-halves.ensures) c.args.s.now
     (record { below = λ i. (c.shared_slice_known-1.given i).fits }) 0 (lit< tt)

@@ -14,7 +14,7 @@ pub slice_bounds-half_update-length : goal.slice_bounds-half_update-length
 slice_bounds-half_update-length c = simp length-take (omega arith)
 
 pub returns : goal.returns
-returns c = 
+returns c =
     parts _ c.args.page.now c.least-a.ensures c.least-b.ensures
     c.half_update-head.ensures c.half_update-field.ensures c.half_update.ensures
     ∙ page_sliced_right _ (whole_by_halves _ c.halves-halves.ensures) _ (record { below = λ i. (c.shared_slice_known-1.given i).fits })

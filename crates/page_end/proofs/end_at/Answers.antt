@@ -6,12 +6,12 @@ use Rattle.page_end.proofs.end_at.Goals as goal
 
 pub returns-then-end-buffer : goal.returns-then-end-buffer
 unfolding end_at
-returns-then-end-buffer c = 
+returns-then-end-buffer c =
     rw (← c.page_extent.ensures, c.in-Ends.is, lt-ltb _ _ c.if-end-buffer.true)
 
 pub returns-else-end-buffer : goal.returns-else-end-buffer
 unfolding end_at
-returns-else-end-buffer c = 
+returns-else-end-buffer c =
     rw (← c.page_extent.ensures, c.in-Ends.is, le-ltb _ _ c.if-end-buffer.false)
 
 pub returns-in-Short : goal.returns-in-Short

@@ -44,14 +44,14 @@ pub loop-i-smaller : goal.loop-i-smaller
 loop-i-smaller c = omega arith
 
 pub loop-i-preserved : goal.loop-i-preserved
-loop-i-preserved c = 
+loop-i-preserved c =
     let l = c.loop-i in
     let s = c.args.lacing.now in
     let step = next s l.i (omega arith) in
     (omega (arith, c.wide-n.ensures.same), omega arith, omega arith)
 
 pub returns : goal.returns
-returns c = 
+returns c =
     let l = c.loop-i in
     let s = c.args.lacing.now in
     let none = none_left s l.i (omega arith) in

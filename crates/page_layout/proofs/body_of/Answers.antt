@@ -11,7 +11,7 @@ use Rattle.page_layout.proofs.body_of.Goals as goal
 
 pub returns : goal.returns
 unfolding body_of
-returns c = 
+returns c =
     let page = c.args.page.now in
     let at : ℕ = lacing_at + c.count_of.result in
     c.part_of.ensures

@@ -5,5 +5,5 @@ use Rattle.page_layout.proofs.header_of.Goals as goal
 
 pub returns : goal.returns
 unfolding header_of
-returns c = 
+returns c =
     rw (c.byte_at.ensures, c.number64.ensures, c.number32.ensures, c.number32-2.ensures)

@@ -9,6 +9,6 @@ use Rattle.page_layout.proofs.lacing_of.Goals as goal
 
 pub returns : goal.returns
 unfolding lacing_of
-returns c = 
+returns c =
     let page = c.args.page.now in
     c.part_of.ensures ∙ ap (λ (n : ℕ). take n (drop lacing_at page)) c.count_of.ensures.same

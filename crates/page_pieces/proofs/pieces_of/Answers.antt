@@ -40,7 +40,7 @@ pub loop-i-smaller : goal.loop-i-smaller
 loop-i-smaller c = omega arith
 
 pub loop-i-preserved : goal.loop-i-preserved
-loop-i-preserved c = 
+loop-i-preserved c =
     let at = c.loop-i in
     let s = c.args.lacing.now in
     let v : ℕ = c.wide-v.result in
@@ -61,7 +61,7 @@ loop-i-preserved c =
     c.if-v-lt255.branch
 
 pub returns : goal.returns
-returns c = 
+returns c =
     let s = c.args.lacing.now in
     let size : length (take 255 s) ≡ min 255 (length s) = length-take 255 s in
     let over : length (take 255 s) ≤ c.loop-i.i = omega arith in

@@ -12,13 +12,13 @@ pub returns-then-s-lt-LACING_AT : goal.returns-then-s-lt-LACING_AT
 returns-then-s-lt-LACING_AT c = let a = c.args in sym (short-header a.s.now a.at c.if-s-lt-LACING_AT.true)
 
 pub returns-then-not-has_capture : goal.returns-then-not-has_capture
-returns-then-not-has_capture c = 
+returns-then-not-has_capture c =
     let call = c.has_capture in
     let a = c.args in
     sym (no_page_lem a.s.now a.at c.if-s-lt-LACING_AT.false (failed call.ensures c.if-not-has_capture.true))
 
 pub returns-then-s-count_of : goal.returns-then-s-count_of
-returns-then-s-count_of c = 
+returns-then-s-count_of c =
     let call = c.has_capture in
     let a = c.args in
     sym
@@ -26,7 +26,7 @@ returns-then-s-count_of c =
     (omega (arith, c.count_of.ensures.same)))
 
 pub returns : goal.returns
-returns c = 
+returns c =
     let call = c.has_capture in
     let a = c.args in
     ap (λ (n : ℕ). ends_at (a.at + n)) c.size_of.ensures.size

@@ -12,13 +12,13 @@ use Rattle.page_size.proofs.page_extent.Goals as goal
 
 pub returns-then-buffer-at : goal.returns-then-buffer-at
 unfolding page_extent
-returns-then-buffer-at c = 
+returns-then-buffer-at c =
     let a = c.args in
     sym (short-header (drop a.at a.buffer.now) a.at (omega (arith, length-drop a.at a.buffer.now)))
 
 pub returns : goal.returns
 unfolding page_extent
-returns c = 
+returns c =
     let a = c.args in
     let s : Bytes = drop a.at a.buffer.now in
     c.extent_in.ensures

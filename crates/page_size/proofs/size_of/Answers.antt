@@ -18,7 +18,7 @@ all-count b h = take_all 255 (lacing_of b) (omega (arith, length-take (count_of 
 
 pub returns : goal.returns
 unfolding size_of
-returns c = 
+returns c =
     let page = c.args.page.now in
     record {
       size =

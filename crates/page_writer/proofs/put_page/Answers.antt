@@ -9,7 +9,7 @@ pub slice_bounds-renew_checksum-end-2 : goal.slice_bounds-renew_checksum-end-2
 slice_bounds-renew_checksum-end-2 c = simp length-take (omega arith)
 
 pub returns : goal.returns
-returns c = 
+returns c =
     let a = c.args in
     put a.h a.lacing.now a.body.now a.out.now c.start_of-start.result c.copy_at.new.0
     c.copy_at-2.new.0 c.copy_at-3.new.0 c.renew_checksum.new.0 c.requires.1

@@ -10,7 +10,7 @@ use Rattle.page_writer.proofs.renew_checksum.Goals as goal
 
 pub returns : goal.returns
 unfolding with_checksum
-returns c = 
+returns c =
     let page = c.args.page.now in
     c.put32.ensures
     ∙ ap (λ (x : ℕ). copied page checksum_at (octets 4 x)) c.page_checksum-sum.ensures

@@ -8,14 +8,13 @@ use Rattle.refusal.specs.declared.Refusal.TheVariants.{ShortOutput, UnfitFields}
 use Rattle.page_lacing.proofs.Bodies.{body-few}
 use Rattle.page_writer.proofs.Writing.{no_body, short-output, any_writable, refused, wrote}
 use Rattle.page_writer.proofs.write_any_page.Goals as goal
-use Rattle.page_writer.proofs.write_any_page.Lts as lts
 
 -- the lacing values are few
-few : (c : lts.Else-not-is_body) → length c.args.lacing.now ≤ 255
+few : (c : goal.Else-not-is_body) → length c.args.lacing.now ≤ 255
 few c = body-few _ _ (held c.is_body.ensures c.if-not-is_body.false)
 
 pub returns-then-not-is_body : goal.returns-then-not-is_body
-returns-then-not-is_body c = 
+returns-then-not-is_body c =
     let a = c.args in
     refused a.h a.lacing.now a.body.now a.out.now UnfitFields
     (no_body a.lacing.now a.body.now (length a.out.now) (failed c.is_body.ensures c.if-not-is_body.true))
@@ -27,16 +26,16 @@ pub overflow_add-size-2 : goal.overflow_add-size-2
 overflow_add-size-2 c = omega (arith, few c)
 
 pub returns-then-out-size : goal.returns-then-out-size
-returns-then-out-size c = 
+returns-then-out-size c =
     let a = c.args in
     refused a.h a.lacing.now a.body.now a.out.now ShortOutput
     (short-output a.lacing.now a.body.now (length a.out.now) (held c.is_body.ensures c.if-not-is_body.false) c.if-out-size.true)
 
 pub put_page-requires : goal.put_page-requires
-put_page-requires c = record { lacing_len_bound = few c.before.before; body_in_bounds = omega arith }
+put_page-requires c = record { lacing_len_bound = few c.before.before.before; body_in_bounds = omega arith }
 
 pub returns : goal.returns
-returns c = 
+returns c =
     let a = c.args in
     rw c.put_page.ensures
     (wrote a.h a.lacing.now a.body.now a.out.now

@@ -4,11 +4,11 @@ use Rattle.page_writer.proofs.Writing.{flags-refused, flags_taken}
 use Rattle.page_writer.proofs.write_page.Goals as goal
 
 pub returns-then-h-gt7 : goal.returns-then-h-gt7
-returns-then-h-gt7 c = 
+returns-then-h-gt7 c =
     let a = c.args in
     flags-refused a.h a.lacing.now a.body.now a.out.now c.if-h-gt7.true
 
 pub returns : goal.returns
-returns c = 
+returns c =
     let a = c.args in
     flags_taken a.h a.lacing.now a.body.now a.out.now _ _ c.if-h-gt7.false c.write_any_page.ensures

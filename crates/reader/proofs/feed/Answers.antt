@@ -3,5 +3,5 @@ use borrow.Author.Rules.{rules}
 use Rattle.reader.proofs.feed.Goals as goal
 
 pub returns : goal.returns
-returns c = 
+returns c =
     rw c.fed_of.ensures c.feed_core.ensures

@@ -3,5 +3,5 @@ use borrow.Author.Rules.{rules}
 use Rattle.reader.proofs.feed_state.Goals as goal
 
 pub returns : goal.returns
-returns c = 
+returns c =
     rw (← c.tally_from-tally.ensures, ← c.core_from-core.ensures) (c.keep.ensures _ _ c.feed_core.ensures)

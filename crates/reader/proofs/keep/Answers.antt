@@ -6,7 +6,7 @@ use Rattle.reader.proofs.States.{state-accepted, state-refused}
 use Rattle.reader.proofs.keep.Goals as goal
 
 pub returns-in-Accepted : goal.returns-in-Accepted
-returns-in-Accepted c = 
+returns-in-Accepted c =
     let core = c.in-Accepted.core in
     let tally = c.in-Accepted.tally in
     let counts = c.in-Accepted.counts in
@@ -14,7 +14,7 @@ returns-in-Accepted c =
     state-accepted core tally counts (rw q at is) c.numbers_of.ensures
 
 pub returns-in-Refused : goal.returns-in-Refused
-returns-in-Refused c = 
+returns-in-Refused c =
     let why = c.in-Refused.why in
     let q : c.args.fed ≡ Refused why = cc in
     state-refused why (rw q at is)

@@ -5,9 +5,9 @@ use Rattle.feed_start.specs.Answers.{told_opened}
 use Rattle.reader.proofs.open.Goals as goal
 
 pub returns-in-At : goal.returns-in-At
-returns-in-At c = 
+returns-in-At c =
     sym (ap told_opened c.in-At.is) ∙ c.open_core.ensures
 
 pub returns-in-Refused : goal.returns-in-Refused
-returns-in-Refused c = 
+returns-in-Refused c =
     sym (ap told_opened c.in-Refused.is) ∙ c.open_core.ensures

@@ -18,13 +18,20 @@ use Rattle.recording.proofs.Streams.{room-stays}
 use Rattle.recording.proofs.judge_in.Invariants.{R}
 use Rattle.recording.proofs.judge_in.Goals as goal
 use Rattle.recording.proofs.judge_in.Lts as lts
+use Rattle.recording.proofs.judge_in.Tie as tie
+
+abbrev After-feed_run : Type 0
+After-feed_run = lts.After-feed_run tie.the-claims tie.handed_pre tie.handed_post goal.the-invariant-loop-next goal.the-decreases-loop-next
+
+abbrev At-loop-next : Type 0
+At-loop-next = lts.At-loop tie.the-claims tie.handed_pre tie.handed_post goal.the-invariant-loop-next goal.the-decreases-loop-next
 
 -- where a step has ended
-module _ (c : lts.After-feed_run invariant_loop decreases_loop) where
-  abbrev at_loop : lts.At-loop-next invariant_loop decreases_loop
+module _ (c : After-feed_run) where
+  abbrev at_loop : At-loop-next
   at_loop = c.before.before.before.before.before.before
 
-  abbrev begun : lts.After-start invariant_loop decreases_loop
+  abbrev begun : goal.After-start
   begun = at_loop.before
 
   abbrev b : Bytes
@@ -46,7 +53,7 @@ pub loop-next-init : goal.loop-next-init
 loop-next-init c = (refl, record { bytes = omega arith; pages = omega arith; packets = omega arith }, refl, refl, refl, refl, refl)
 
 pub feed_run-requires : goal.feed_run-requires
-feed_run-requires c = 
+feed_run-requires c =
     let l = c.loop-next in
     record {
       within = l.invariant.1;
@@ -54,13 +61,13 @@ feed_run-requires c =
     }
 
 pub loop-next-smaller : goal.loop-next-smaller
-loop-next-smaller c = 
-    let w = went c.before.before.before.before.before.before.before.before.before.before.before.before.before c.in-Goes.is in
+loop-next-smaller c =
+    let w = went c.before.before.before.before.before.before.before.before.before.before.before.before.before.before c.in-Goes.is in
     omega (arith, w.1, w.2.bytes)
 
 pub loop-next-preserved : goal.loop-next-preserved
-loop-next-preserved c = 
-    let call = c.before.before.before.before.before.before.before.before.before.before.before.before in
+loop-next-preserved c =
+    let call = c.before.before.before.before.before.before.before.before.before.before.before.before.before in
     let inv = call.loop-next.invariant in
     let w = went call c.in-Goes.is in (
       w.0 ∙ inv.0,
@@ -88,4 +95,4 @@ pub shape_of-frames-in-Ends : goal.shape_of-frames-in-Ends
 shape_of-frames-in-Ends c = c.frames-1.given ∙ c.loop-next.invariant.6
 
 pub returns-in-Ends : goal.returns-in-Ends
-returns-in-Ends c = ended c.before.before.before.before.before.before.before.before.before.before.before.before.before c.in-Ends.is
+returns-in-Ends c = ended c.before.before.before.before.before.before.before.before.before.before.before.before.before.before c.in-Ends.is

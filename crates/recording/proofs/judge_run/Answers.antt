@@ -4,7 +4,7 @@ use Rattle.recording.specs.Answers.{next_of}
 use Rattle.recording.proofs.judge_run.Goals as goal
 
 pub overflow_add-packets : goal.overflow_add-packets
-overflow_add-packets c = 
+overflow_add-packets c =
     let few = c.requires.packets in
     search rules
 

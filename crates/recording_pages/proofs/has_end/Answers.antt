@@ -30,7 +30,7 @@ pub bounds-lacing-i : goal.bounds-lacing-i
 bounds-lacing-i c = omega arith
 
 pub returns-then-lacing-i-lt255 : goal.returns-then-lacing-i-lt255
-returns-then-lacing-i-lt255 c = 
+returns-then-lacing-i-lt255 c =
     let at = c.loop-i in
     let l = c.args.lacing.now in
     sym (found l at.i (omega arith) c.if-lacing-i-lt255.true) ∙ at.invariant.0
@@ -42,14 +42,14 @@ pub loop-i-smaller : goal.loop-i-smaller
 loop-i-smaller c = omega arith
 
 pub loop-i-preserved : goal.loop-i-preserved
-loop-i-preserved c = 
+loop-i-preserved c =
     let at = c.loop-i in
     let l = c.args.lacing.now in
     (goes_on l at.i (omega arith) c.if-lacing-i-lt255.false ∙ at.invariant.0, omega arith)
 
 pub returns : goal.returns
 unfolding ends
-returns c = 
+returns c =
     let at = c.loop-i in
     let l = c.args.lacing.now in
     rw (drop_of_length-le l c.loop-i-test.false) at at.invariant.0

@@ -13,14 +13,14 @@ pub loop-k-init : goal.loop-k-init
 loop-k-init c = (at_first c.args.stream.now, omega arith)
 
 pub returns-then-at-stream : goal.returns-then-at-stream
-returns-then-at-stream c = 
+returns-then-at-stream c =
     let at = c.loop-k in
     let a = c.args in
     let b = a.stream.now in
     at.invariant.0.place ∙ sym (place-past (pages_of b) at.k a.page (at_end_lem b at.k at.at at.invariant.0 (omega arith)) at.invariant.1)
 
 pub overflow_add-at : goal.overflow_add-at
-overflow_add-at c = 
+overflow_add-at c =
     let at = c.loop-k in
     let b = c.args.stream.now in
     omega (arith, ap length c.page_at.ensures, (at_next b at.k at.at at.invariant.0 (omega arith)).inside)
@@ -32,13 +32,13 @@ pub loop-k-smaller : goal.loop-k-smaller
 loop-k-smaller c = omega arith
 
 pub loop-k-preserved : goal.loop-k-preserved
-loop-k-preserved c = 
+loop-k-preserved c =
     let at = c.loop-k in
     let b = c.args.stream.now in
     (rw c.page_at.ensures (at_next b at.k at.at at.invariant.0 (omega arith)).next, omega arith)
 
 pub returns : goal.returns
-returns c = 
+returns c =
     let at = c.loop-k in
     let a = c.args in
     let same : at.k ≡ a.page = omega (arith, at.invariant.1) in

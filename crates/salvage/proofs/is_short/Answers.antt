@@ -4,27 +4,31 @@ use Rattle.salvage.proofs.Steps.{lines-over}
 use Rattle.salvage.proofs.Putting.{walked-bytes, walked_lines, surely_fits, bytes-short, lines_decide}
 use Rattle.salvage.proofs.is_short.Goals as goal
 use Rattle.salvage.proofs.is_short.Lts as lts
+use Rattle.salvage.proofs.is_short.Tie as tie
 
-fits : (c : lts.Start) → length c.args.buffer.now < 2 ^ 64
+abbrev Start : Type 0
+Start = lts.Start tie.the-claims tie.handed_pre tie.handed_post
+
+fits : (c : Start) → length c.args.buffer.now < 2 ^ 64
 fits c = omega arith
 
 pub returns-then-room-n : goal.returns-then-room-n
-returns-then-room-n c = 
+returns-then-room-n c =
     let a = c.args in
     sym (surely_fits a.buffer.now a.list.now a.out a.room c.requires (omega (arith, c.if-out-n.true)) (omega (arith, c.if-room-n.true)))
 
 pub returns-then-out-walk : goal.returns-then-out-walk
-returns-then-out-walk c = 
+returns-then-out-walk c =
     let a = c.args in
     sym (bytes-short a.buffer.now a.list.now a.out a.room (omega (arith, c.if-out-walk.true, walked-bytes c.walk_all-walk.ensures)))
 
 pub lines_in-requires : goal.lines_in-requires
-lines_in-requires c = 
-    let start = c.before.before.before.before.before.before in
+lines_in-requires c =
+    let start = c.before.before.before.before.before.before.before in
     lines-over start.args.buffer.now start.args.list.now (fits start) start.requires c.walk_all-walk.ensures.walks
 
 pub returns : goal.returns
-returns c = 
+returns c =
     let a = c.args in
     ap (ltb a.room) (c.lines_in.ensures ∙ walked_lines c.walk_all-walk.ensures)
     ∙ sym (lines_decide a.buffer.now a.list.now a.out a.room (omega (arith, c.if-out-walk.false, walked-bytes c.walk_all-walk.ensures)))

@@ -8,10 +8,17 @@ use Rattle.salvage.proofs.Steps.{lines-over}
 use Rattle.salvage.proofs.Putting.{walked-bytes, walked_lines, bytes_fit, lines_fit, column_stored, column_kept}
 use Rattle.salvage.proofs.put_kept.Goals as goal
 use Rattle.salvage.proofs.put_kept.Lts as lts
+use Rattle.salvage.proofs.put_kept.Tie as tie
+
+abbrev After-is_short : Type 0
+After-is_short = lts.After-is_short tie.the-claims tie.handed_pre tie.handed_post
+
+abbrev Start : Type 0
+Start = lts.Start tie.the-claims tie.handed_pre tie.handed_post
 
 -- where the room was looked at
-module _ (c : lts.After-is_short) where
-  abbrev start : lts.Start
+module _ (c : After-is_short) where
+  abbrev start : Start
   start = c.before.before.before.before.before.before.before.before.before
 
   room-is : c.least-room.result ≡ min (length start.args.what.now) (min (length start.args.places.now) (length start.args.sizes.now))
@@ -26,22 +33,22 @@ module _ (c : lts.After-is_short) where
   fits = omega arith
 
 pub returns-then-is_short : goal.returns-then-is_short
-returns-then-is_short c = record { told = rw (short-is c.before true c.if-is_short.true); output = refl; whats = refl; spots = refl; counts = refl }
+returns-then-is_short c = record { told = rw (short-is c.before.before true c.if-is_short.true); output = refl; whats = refl; spots = refl; counts = refl }
 
 pub write_pages-walk-requires : goal.write_pages-walk-requires
-write_pages-walk-requires c = 
-    let a = (start c.before).args in
-    record { kept = (start c.before).requires; room = bytes_fit a.buffer.now a.list.now _ _ (short-is c.before false c.if-is_short.false) }
+write_pages-walk-requires c =
+    let a = (start c.before.before).args in
+    record { kept = (start c.before.before).requires; room = bytes_fit a.buffer.now a.list.now _ _ (short-is c.before.before false c.if-is_short.false) }
 
 pub lines_in-lines-requires : goal.lines_in-lines-requires
-lines_in-lines-requires c = 
-    let short = c.before.before.before in
+lines_in-lines-requires c =
+    let short = c.before.before.before.before in
     let s = start short in
     lines-over s.args.buffer.now s.args.list.now (fits short) s.pre c.write_pages-walk.ensures.walked.walks
 
 pub returns-then-lines-eq0 : goal.returns-then-lines-eq0
-returns-then-lines-eq0 c = 
-    let short = c.before in
+returns-then-lines-eq0 c =
+    let short = c.before.before in
     let a = (start short).args in
     let walked = c.write_pages-walk.ensures.walked in
     let none : length (all_lines a.buffer.now a.list.now) ≡ 0 = sym (c.lines_in-lines.ensures ∙ walked_lines walked) ∙ c.if-lines-eq0.true in
@@ -54,9 +61,9 @@ returns-then-lines-eq0 c =
     }
 
 pub returns : goal.returns
-returns c = 
+returns c =
     let stored = c.write_lines.ensures in
-    let short = c.before in
+    let short = c.before.before in
     let a = (start short).args in
     let walked = c.write_pages-walk.ensures.walked in
     let few = lines_fit a.buffer.now a.list.now _ _ (short-is short false c.if-is_short.false) in

@@ -7,7 +7,7 @@ use Rattle.salvage.proofs.Pages.{as_it_is_lem, put-tidied}
 use Rattle.salvage.proofs.put_page.Goals as goal
 
 pub returns-then-is_same : goal.returns-then-is_same
-returns-then-is_same c = 
+returns-then-is_same c =
     let a = c.args in
     c.copy_at.ensures
     ∙ ap (copied a.out.now a.walk.bytes)
@@ -15,7 +15,7 @@ returns-then-is_same c =
     (sym c.is_same.ensures ∙ c.if-is_same.true)))
 
 pub returns : goal.returns
-returns c = 
+returns c =
     let a = c.args in
     put-tidied a.page.now a.next.form a.walk.number a.out.now a.walk.bytes c.write_tidied.result _
     (record { below = λ i. (c.shared_slice_known-1.given i).fits }) (read_one page_crc a.page.now c.requires.good) c.requires.room c.write_tidied.ensures

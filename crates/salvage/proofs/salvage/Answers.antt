@@ -9,13 +9,23 @@ use Rattle.salvage_kept.specs.Found.{is_short_work, told_found, KeptAt}
 use Rattle.salvage.proofs.Salvaging.{due, refused-told, found, saved-is, saved-told}
 use Rattle.salvage.proofs.salvage.Goals as goal
 use Rattle.salvage.proofs.salvage.Lts as lts
+use Rattle.salvage.proofs.salvage.Tie as tie
+
+abbrev In-Pages-2 : Type 0
+In-Pages-2 = lts.After-n tie.the-claims tie.handed_pre tie.handed_post
+
+abbrev After-find_kept : Type 0
+After-find_kept = lts.After-find_kept tie.the-claims tie.handed_pre tie.handed_post
+
+abbrev Start : Type 0
+Start = lts.Start tie.the-claims tie.handed_pre tie.handed_post
 
 -- where the pages were found
-module _ (arm : lts.In-Pages-2) where
-  abbrev call : lts.After-find_kept
+module _ (arm : In-Pages-2) where
+  abbrev call : After-find_kept
   call = arm.before.before.before.before
 
-  abbrev start : lts.Start
+  abbrev start : Start
   start = call.before.before.before.before.before.before.before.before
 
   abbrev n : ℕ
@@ -34,18 +44,18 @@ module _ (arm : lts.In-Pages-2) where
   told = found start.args.buffer.now (length start.args.work.now) 0 0 n (sym (ap told_found arm.in-Pages.is) ∙ call.find_kept.ensures.told)
 
 pub slice_bounds-put_kept-end : goal.slice_bounds-put_kept-end
-slice_bounds-put_kept-end c = (here c.before).0
+slice_bounds-put_kept-end c = (here c.before.before).0
 
 pub slice_bounds-put_kept-end-in-Pages : goal.slice_bounds-put_kept-end-in-Pages
-slice_bounds-put_kept-end-in-Pages c = omega (arith, (here c.before.before).0, length-take (n c.before.before) (work c.before.before))
+slice_bounds-put_kept-end-in-Pages c = omega (arith, (here c.before.before.before).0, length-take (n c.before.before.before) (work c.before.before.before))
 
 pub put_kept-requires : goal.put_kept-requires
-put_kept-requires c = (here c.before.before.before.before.before.before).1
+put_kept-requires c = (here c.before.before.before.before.before.before.before).1
 
 pub returns-in-Pages : goal.returns-in-Pages
-returns-in-Pages c = 
+returns-in-Pages c =
     let put = c.put_kept.ensures in
-    let arm = c.before.before.before.before.before.before.before.before.before.before.before.before.before.before.before in
+    let arm = c.before.before.before.before.before.before.before.before.before.before.before.before.before.before.before.before in
     let a = (start arm).args in
     let saved = saved-is a.buffer.now (take (n arm) (work arm)) (here arm).1 (told arm).1 in
     record {
@@ -58,7 +68,7 @@ returns-in-Pages c =
     }
 
 pub returns-in-Refused : goal.returns-in-Refused
-returns-in-Refused c = 
+returns-in-Refused c =
     let a = c.args in
     record {
       told = sym (refused-told a.buffer.now (length a.work.now) _ _ _ (sym (ap told_found c.in-Refused.is) ∙ c.find_kept.ensures.told));

@@ -12,29 +12,39 @@ use Rattle.salvage_feed.specs.Feeding.{tidied_bytes}
 use Rattle.salvage_feed.proofs.Feeding.{parts_of, accepts, refused}
 use Rattle.salvage_feed.proofs.feed_tidied.Goals as goal
 use Rattle.salvage_feed.proofs.feed_tidied.Lts as lts
+use Rattle.salvage_feed.proofs.feed_tidied.Tie as tie
+
+abbrev Start : Type 0
+Start = lts.Start tie.the-claims tie.handed_pre tie.handed_post
+
+abbrev After-feed_parts : Type 0
+After-feed_parts = lts.After-feed_parts tie.the-claims tie.handed_pre tie.handed_post
+
+abbrev After-shared_slice_known-1 : Type 0
+After-shared_slice_known-1 = lts.After-shared_slice_known tie.the-claims tie.handed_pre tie.handed_post
 
 -- where the function starts, and what is lent to it
-abbrev start : lts.After-header_kept-h → lts.Start
+abbrev start : goal.After-header_kept-h → Start
 start c = c.before.before.before.before.before.before.before
 
-abbrev lent : lts.Start → Lent
+abbrev lent : Start → Lent
 lent s = lent_of s.args.carry.now s.args.ends.now s.args.lengths.now s.args.kept.now s.args.frames.now
 
 -- the page's parts, before it is fed
-abbrev body : lts.After-feed_parts → lts.After-body_kept-body
+abbrev body : After-feed_parts → goal.After-body_kept-body
 body c = c.before.before.before.before.before.before.before
 
-abbrev lacing : lts.After-feed_parts → lts.After-lacing_kept-lacing
+abbrev lacing : After-feed_parts → goal.After-lacing_kept-lacing
 lacing c = (body c).before
 
-abbrev header : lts.After-feed_parts → lts.After-header_kept-h
+abbrev header : After-feed_parts → goal.After-header_kept-h
 header c = (lacing c).before
 
-abbrev known : lts.After-feed_parts → lts.After-shared_slice_known-1
+abbrev known : After-feed_parts → After-shared_slice_known-1
 known c = (header c).before.before.before.before.before.before
 
-module _ (c : lts.After-feed_parts) where
-  abbrev s : lts.Start
+module _ (c : After-feed_parts) where
+  abbrev s : Start
   s = start (header c)
 
   abbrev b : Bytes
@@ -48,13 +58,13 @@ module _ (c : lts.After-feed_parts) where
       (header c).header_kept-h.ensures (lacing c).lacing_kept-lacing.ensures (body c).body_kept-body.ensures
 
 pub returns-in-Accepted : goal.returns-in-Accepted
-returns-in-Accepted c = 
-    let call = c.before.before.before.before.before.before.before.before.before.before.before.before in
+returns-in-Accepted c =
+    let call = c.before.before.before.before.before.before.before.before.before.before.before.before.before in
     accepts (s call).args.core call.no_tally-tally.result (lent (s call)) _ (b call) room c.in-Accepted.is
     (call.feed_parts.ensures page_crc (b call) (parts call good))
 
 pub returns-in-Refused : goal.returns-in-Refused
-returns-in-Refused c = 
-    let call = c.before.before.before.before.before.before.before.before.before.before.before.before in
+returns-in-Refused c =
+    let call = c.before.before.before.before.before.before.before.before.before.before.before.before.before in
     refused (s call).args.core call.no_tally-tally.result (lent (s call)) _ (b call) room c.in-Refused.is
     (call.feed_parts.ensures page_crc (b call) (parts call good))

@@ -4,6 +4,6 @@ use Rattle.salvage_kept.proofs.Carrying.{same_view}
 use Rattle.salvage_kept.proofs.copy_held.Goals as goal
 
 pub returns : goal.returns
-returns c = 
+returns c =
     let a = c.args in
     same_view a.core c.held_in.result _ a.from.now c.held_in.ensures c.copy_first.ensures

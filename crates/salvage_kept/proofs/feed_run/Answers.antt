@@ -5,15 +5,25 @@ use Rattle.salvage_kept.specs.Promises.{Onward}
 use Rattle.salvage_kept.proofs.Running.{Ran, ran_not, nearer, run_over, can_feed, run_on, run_refused}
 use Rattle.salvage_kept.proofs.feed_run.Goals as goal
 use Rattle.salvage_kept.proofs.feed_run.Lts as lts
+use Rattle.salvage_kept.proofs.feed_run.Tie as tie
+
+abbrev After-listed_at-next : Type 0
+After-listed_at-next = lts.After-listed_at tie.the-claims tie.handed_pre tie.handed_post goal.the-invariant-loop-next goal.the-decreases-loop-next
+
+abbrev At-loop-next : Type 0
+At-loop-next = lts.At-loop tie.the-claims tie.handed_pre tie.handed_post goal.the-invariant-loop-next goal.the-decreases-loop-next
+
+abbrev Start : Type 0
+Start = lts.Start tie.the-claims tie.handed_pre tie.handed_post goal.the-invariant-loop-next goal.the-decreases-loop-next
 
 -- where a turn begins
-abbrev at_loop : lts.After-listed_at-next invariant_loop decreases_loop → lts.At-loop-next invariant_loop decreases_loop
+abbrev at_loop : After-listed_at-next → At-loop-next
 at_loop c = c.before.before
 
-abbrev start : lts.At-loop-next invariant_loop decreases_loop → lts.Start invariant_loop decreases_loop
+abbrev start : At-loop-next → Start
 start c = c.before.before.before.before.before.before.before.before.before.before
 
-fits : (c : lts.Start invariant_loop decreases_loop) → length c.args.list.now < 2 ^ 64
+fits : (c : Start) → length c.args.list.now < 2 ^ 64
 fits c = omega arith
 
 pub loop-next-init : goal.loop-next-init
@@ -41,20 +51,20 @@ pub shape_of-frames-then-index-list : goal.shape_of-frames-then-index-list
 shape_of-frames-then-index-list c = c.loop-next.invariant.alike.frames
 
 pub returns-then-index-list : goal.returns-then-index-list
-returns-then-index-list c = 
-    let listed = c.before in
+returns-then-index-list c =
+    let listed = c.before.before in
     let loop = at_loop listed in
     run_over (start loop).requires loop.loop.inv listed.listed_at-next.ensures c.if-index-list.true
 
 pub feed_next-requires : goal.feed_next-requires
-feed_next-requires c = 
-    let listed = c.before in
+feed_next-requires c =
+    let listed = c.before.before in
     let loop = at_loop listed in
     can_feed (start loop).requires loop.loop.inv listed.listed_at-next.ensures (omega (arith, c.if-index-list.false)) (fits (start loop))
 
 pub loop-next-smaller : goal.loop-next-smaller
-loop-next-smaller c = 
-    let listed = c.before in
+loop-next-smaller c =
+    let listed = c.before.before in
     let loop = at_loop listed in
     let i = listed.listed_at-next.result.index in
     let after = c.in-Accepted.after in
@@ -62,8 +72,8 @@ loop-next-smaller c =
     omega (arith, past, nearer (start loop).args.list.now loop.loop.pass.now.at i listed.listed_at-next.ensures.index (omega (arith, c.if-index-list.false)))
 
 pub loop-next-preserved : goal.loop-next-preserved
-loop-next-preserved c = 
-    let listed = c.before in
+loop-next-preserved c =
+    let listed = c.before.before in
     let loop = at_loop listed in
     run_on (start loop).requires loop.loop.inv listed.listed_at-next.ensures (omega (arith, c.if-index-list.false)) c.feed_next.result _ _ _
     c.feed_next.ensures.0
@@ -100,8 +110,8 @@ pub shape_of-frames-in-Refused : goal.shape_of-frames-in-Refused
 shape_of-frames-in-Refused c = c.frames-1.given ∙ c.loop-next.invariant.alike.frames
 
 pub returns-in-Refused : goal.returns-in-Refused
-returns-in-Refused c = 
-    let listed = c.before in
+returns-in-Refused c =
+    let listed = c.before.before in
     let loop = at_loop listed in
     run_refused (start loop).requires loop.loop.inv listed.listed_at-next.ensures (omega (arith, c.if-index-list.false)) c.feed_next.result
     c.feed_next.new.1.1.1.0 c.feed_next.new.1.1.1.1.0 c.feed_next.ensures.0 c.in-Refused.is

@@ -3,6 +3,6 @@ use Rattle.std.proofs.Common.{add-one, rules}
 use Rattle.salvage_kept.proofs.point_after.Goals as goal
 
 pub returns : goal.returns
-returns c = 
+returns c =
     let a = c.args in
     rw (c.next_prior.ensures, c.wrapping_add_u32.ensures, add-one a.next.index)

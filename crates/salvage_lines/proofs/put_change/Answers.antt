@@ -6,22 +6,22 @@ use Rattle.salvage_lines.proofs.put_change.Goals as goal
 
 pub returns-then-what-eq0 : goal.returns-then-what-eq0
 unfolding change_line
-returns-then-what-eq0 c = 
+returns-then-what-eq0 c =
     rw (eq-eqb _ _ c.if-what-eq0.true) c.put_named.ensures
 
 pub returns-then-what-eq1 : goal.returns-then-what-eq1
 unfolding change_line
-returns-then-what-eq1 c = 
+returns-then-what-eq1 c =
     rw (ne_eqb _ _ c.if-what-eq0.false, eq-eqb _ _ c.if-what-eq1.true) c.put_named-then-what-eq1.ensures
 
 pub returns-then-what-eq2 : goal.returns-then-what-eq2
 unfolding change_line
-returns-then-what-eq2 c = 
+returns-then-what-eq2 c =
     rw (ne_eqb _ _ c.if-what-eq0.false, ne_eqb _ _ c.if-what-eq1.false, eq-eqb _ _ c.if-what-eq2.true)
     c.put_named-then-what-eq2.ensures
 
 pub returns : goal.returns
 unfolding change_line
-returns c = 
+returns c =
     rw (ne_eqb _ _ c.if-what-eq0.false, ne_eqb _ _ c.if-what-eq1.false, ne_eqb _ _ c.if-what-eq2.false)
     c.put_named-2.ensures

@@ -10,7 +10,7 @@ use Rattle.salvage_list.proofs.Same.{same-pages}
 use Rattle.salvage_list.proofs.collect.Goals as goal
 
 pub returns : goal.returns
-returns c = 
+returns c =
     let a = c.args in
     let same =
     same-pages (page_sliced (entry_in c.tables-tables.result)) page_crc (λ (p : Bytes) (o : Octets p). page_sliced_right (entry_in c.tables-tables.result) c.tables-tables.ensures p o)

@@ -13,7 +13,7 @@ use Rattle.salvage_list.proofs.Collecting.{Collecting, begins, turns, ends}
 use Rattle.salvage_list.proofs.collect_serial.Goals as goal
 
 pub loop-place-init : goal.loop-place-init
-loop-place-init c = 
+loop-place-init c =
     let a = c.args in
     rw c.next_page_with-place.ensures (begins (page_sliced (entry_in a.tables.now)) a.buffer.now a.serial a.work.now)
 
@@ -21,7 +21,7 @@ pub keep-count-requires : goal.keep-count-requires
 keep-count-requires c = let l = c.loop-place in omega (arith, l.invariant.few)
 
 pub loop-place-smaller : goal.loop-place-smaller
-loop-place-smaller c = 
+loop-place-smaller c =
     let l = c.loop-place in
     let a = c.args in
     let crc = page_sliced (entry_in a.tables.now) in
@@ -29,7 +29,7 @@ loop-place-smaller c =
     (omega (arith, nearer crc a.buffer.now l.place l.invariant.there (omega arith)))
 
 pub loop-place-preserved : goal.loop-place-preserved
-loop-place-preserved c = 
+loop-place-preserved c =
     let l = c.loop-place in
     let a = c.args in
     let crc = page_sliced (entry_in a.tables.now) in
@@ -43,7 +43,7 @@ pub shape_of-work : goal.shape_of-work
 shape_of-work c = c.loop-place.invariant.long
 
 pub returns : goal.returns
-returns c = 
+returns c =
     let l = c.loop-place in
     let a = c.args in
     ends (page_sliced (entry_in a.tables.now)) a.buffer.now a.serial a.work.now l.place l.count l.work l.invariant (omega arith)

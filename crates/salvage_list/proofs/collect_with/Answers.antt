@@ -7,12 +7,12 @@ use Rattle.salvage_list.proofs.Collecting.{of_serial_lem, of_none}
 use Rattle.salvage_list.proofs.collect_with.Goals as goal
 
 pub returns-in-Serial : goal.returns-in-Serial
-returns-in-Serial c = 
+returns-in-Serial c =
     let a = c.args in
     of_serial_lem (good_pages (page_sliced (entry_in a.tables.now)) a.buffer.now) c.serial_of.result c.serial_of.ensures c.in-Serial.is
     c.collect_serial.ensures
 
 pub returns-in-Nothing : goal.returns-in-Nothing
-returns-in-Nothing c = 
+returns-in-Nothing c =
     let a = c.args in
     of_none (good_pages (page_sliced (entry_in a.tables.now)) a.buffer.now) c.serial_of.result c.serial_of.ensures c.in-Nothing.is

@@ -12,13 +12,13 @@ use Rattle.salvage_list.proofs.Known.{as_known, looked_up}
 use Rattle.salvage_list.proofs.cut_by.Goals as goal
 
 pub returns-then-is_known : goal.returns-then-is_known
-returns-then-is_known c = 
+returns-then-is_known c =
     let a = c.args in
     let later = listed_in a.buffer.now (drop (suc a.index) a.list.now) in
     sym (as_known a.prior a.known a.link later (sym c.is_known.ensures ∙ c.if-is_known.true))
 
 pub returns : goal.returns
-returns c = 
+returns c =
     let a = c.args in
     let after : ℕ → List Good = λ k. listed_in a.buffer.now (drop k a.list.now) in
     let told : c.is_cut_after.result ≡ link_cut a.link (after (a.index + 1)) = c.is_cut_after.ensures in

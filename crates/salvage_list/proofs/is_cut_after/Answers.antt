@@ -15,10 +15,9 @@ use Rattle.salvage_list.specs.Next.{link_at}
 use Rattle.salvage_list.proofs.Next.{further}
 use Rattle.salvage_list.proofs.Cut.{not-onward, no_next, breaks, ends, goes_on}
 use Rattle.salvage_list.proofs.is_cut_after.Goals as goal
-use Rattle.salvage_list.proofs.is_cut_after.Lts as lts
 
 -- what joins the next page to its neighbours
-joined : (c : lts.After-link_of-next invariant_loop decreases_loop)
+joined : (c : goal.After-link_of-next)
     → c.link_of-next.result ≡ link_at c.args.buffer.now c.args.list.now c.next_listed-index.result
 joined c = c.link_of-next.ensures ∙ ap (λ (s : Bytes). link_of (page_of s)) c.page_at.ensures
 
@@ -26,41 +25,41 @@ pub loop-last-init : goal.loop-last-init
 loop-last-init c = refl
 
 pub returns-then-index-list : goal.returns-then-index-list
-returns-then-index-list c = 
+returns-then-index-list c =
     let a = c.args in
     let l = c.loop-last in
     let called = c.next_listed-index in
     sym (no_next a.buffer.now a.list.now l.last l.at called.result called.ensures c.if-index-list.true) ∙ l.invariant
 
 pub returns-then-not-follows : goal.returns-then-not-follows
-returns-then-not-follows c = 
-    let linked = c.before.before in
+returns-then-not-follows c =
+    let linked = c.before.before.before in
     let l = linked.loop-last in
     let a = linked.args in
     sym (breaks a.buffer.now a.list.now l.last l.at linked.next_listed-index.result linked.next_listed-index.ensures linked.link_of-next.result (joined linked) linked.if-index-list.false linked.loop-last-test.true (failed c.follows.ensures c.if-not-follows.true)) ∙ l.invariant
 
 pub returns-then-not-next : goal.returns-then-not-next
-returns-then-not-next c = 
-    let linked = c.before.before.before.before in
+returns-then-not-next c =
+    let linked = c.before.before.before.before.before in
     let l = linked.loop-last in
     let a = linked.args in
-    sym (ends a.buffer.now a.list.now l.last l.at linked.next_listed-index.result linked.next_listed-index.ensures linked.link_of-next.result (joined linked) linked.if-index-list.false linked.loop-last-test.true (held c.follows.ensures c.if-not-follows.false) (not-true linked.link_of-next.result.through c.if-not-next.true)) ∙ l.invariant
+    sym (ends a.buffer.now a.list.now l.last l.at linked.next_listed-index.result linked.next_listed-index.ensures linked.link_of-next.result (joined linked) linked.if-index-list.false linked.loop-last-test.true (held c.follows.ensures c.if-not-follows.false) c.if-not-next.true) ∙ l.invariant
 
 pub loop-last-smaller : goal.loop-last-smaller
-loop-last-smaller c = 
+loop-last-smaller c =
     let l = c.loop-last in
     let a = c.args in
     omega (arith, c.if-index-list.false, c.next_listed-index.ensures, further a.list.now l.at (rw c.next_listed-index.ensures at c.if-index-list.false))
 
 pub loop-last-preserved : goal.loop-last-preserved
-loop-last-preserved c = 
-    let linked = c.before.before.before.before in
+loop-last-preserved c =
+    let linked = c.before.before.before.before.before in
     let l = linked.loop-last in
     let a = linked.args in
-    sym (goes_on a.buffer.now a.list.now l.last l.at linked.next_listed-index.result linked.next_listed-index.ensures linked.link_of-next.result (joined linked) linked.if-index-list.false linked.loop-last-test.true (held c.follows.ensures c.if-not-follows.false) (not-false linked.link_of-next.result.through c.if-not-next.false)) ∙ l.invariant
+    sym (goes_on a.buffer.now a.list.now l.last l.at linked.next_listed-index.result linked.next_listed-index.ensures linked.link_of-next.result (joined linked) linked.if-index-list.false linked.loop-last-test.true (held c.follows.ensures c.if-not-follows.false) c.if-not-next.false) ∙ l.invariant
 
 pub returns : goal.returns
-returns c = 
+returns c =
     let l = c.loop-last in
     let a = c.args in
     sym (not-onward l.last (listed_in a.buffer.now (drop l.at a.list.now)) c.loop-last-test.false) ∙ l.invariant

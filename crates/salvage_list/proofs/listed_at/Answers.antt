@@ -10,12 +10,12 @@ use Rattle.salvage_list.proofs.Next.{next-listed}
 use Rattle.salvage_list.proofs.listed_at.Goals as goal
 
 pub cut_by-cut-requires : goal.cut_by-cut-requires
-cut_by-cut-requires c = 
+cut_by-cut-requires c =
     let a = c.args in
     omega (arith, c.next_listed-index.ensures, (next-listed [] a.list.now a.from).inside)
 
 pub returns : goal.returns
-returns c = 
+returns c =
     let next = c.next_listed-index in
     let linked = c.link_of-link in
     record {

@@ -12,26 +12,26 @@ use Rattle.salvage_list.proofs.Next.{found, goes_on, over, begins}
 use Rattle.salvage_list.proofs.next_listed.Goals as goal
 
 pub loop-at-init : goal.loop-at-init
-loop-at-init c = 
+loop-at-init c =
     let a = c.args in
     (omega (arith, c.least-at.ensures), rw c.least-at.ensures (begins a.list.now a.from))
 
 pub loop-at-preserved : goal.loop-at-preserved
-loop-at-preserved c = 
+loop-at-preserved c =
     let l = c.loop-at in
     let ws = c.args.list.now in
     let missing = eq-eqb (get_or ws l.at 0) missing_place c.if-list-at.false in
     (omega arith, sym (goes_on ws l.at (omega arith) missing) ∙ l.invariant.1)
 
 pub returns-then-at-list : goal.returns-then-at-list
-returns-then-at-list c = 
+returns-then-at-list c =
     let l = c.loop-at in
     let ws = c.args.list.now in
     let end : length ws ≡ l.at = omega arith in
     end ∙ sym (over ws l.at (omega arith)) ∙ l.invariant.1
 
 pub returns-then-list-at : goal.returns-then-list-at
-returns-then-list-at c = 
+returns-then-list-at c =
     let l = c.loop-at in
     let ws = c.args.list.now in
     let there = ne_eqb (get_or ws l.at 0) missing_place c.if-list-at.true in

@@ -9,7 +9,7 @@ use Rattle.salvage_list.proofs.There.{bytes_fit}
 use Rattle.salvage_list.proofs.seen_at.Goals as goal
 
 pub overflow_add-end : goal.overflow_add-end
-overflow_add-end c = 
+overflow_add-end c =
     let a = c.args in
     let fit = bytes_fit a.buffer.now a.place (2 ^ 64 - 1) (omega arith) (omega arith) in
     omega (arith, fit, ap length c.page_at-page.ensures)

@@ -15,13 +15,13 @@ use Rattle.salvage_list.proofs.Collecting.{no_serial, serial-here, serial-later}
 use Rattle.salvage_list.proofs.serial_of.Goals as goal
 
 pub loop-place-init : goal.loop-place-init
-loop-place-init c = 
+loop-place-init c =
     let a = c.args in
     let crc = page_sliced (entry_in a.tables.now) in
     rw c.next_page_with-place.ensures (found crc a.buffer.now 0, ap serial_in (all_left crc a.buffer.now))
 
 pub returns-then-is_first_page : goal.returns-then-is_first_page
-returns-then-is_first_page c = 
+returns-then-is_first_page c =
     let l = c.loop-place in
     let a = c.args in
     let crc = page_sliced (entry_in a.tables.now) in
@@ -30,7 +30,7 @@ returns-then-is_first_page c =
     rw seen (sym (serial-here crc a.buffer.now l.place l.invariant.0 (omega arith) (rw seen at first)) ∙ l.invariant.1)
 
 pub loop-place-smaller : goal.loop-place-smaller
-loop-place-smaller c = 
+loop-place-smaller c =
     let l = c.loop-place in
     let a = c.args in
     let crc = page_sliced (entry_in a.tables.now) in
@@ -38,7 +38,7 @@ loop-place-smaller c =
     (omega (arith, nearer crc a.buffer.now l.place l.invariant.0 (omega arith)))
 
 pub loop-place-preserved : goal.loop-place-preserved
-loop-place-preserved c = 
+loop-place-preserved c =
     let l = c.loop-place in
     let a = c.args in
     let crc = page_sliced (entry_in a.tables.now) in
@@ -48,7 +48,7 @@ loop-place-preserved c =
     (found crc a.buffer.now _, sym (serial-later crc a.buffer.now l.place l.invariant.0 (omega arith) (rw seen at other)) ∙ l.invariant.1)
 
 pub returns : goal.returns
-returns c = 
+returns c =
     let l = c.loop-place in
     let a = c.args in
     sym (no_serial (page_sliced (entry_in a.tables.now)) a.buffer.now l.place (omega arith)) ∙ l.invariant.1

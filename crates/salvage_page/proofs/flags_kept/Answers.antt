@@ -4,10 +4,10 @@ use borrow.Author.Tests.{not-true, not-false}
 use Rattle.salvage_page.proofs.flags_kept.Goals as goal
 
 pub returns-then-not-lead : goal.returns-then-not-lead
-returns-then-not-lead c = rw (not-true c.args.lead c.if-not-lead.true)
+returns-then-not-lead c = rw c.if-not-lead.true
 
 pub returns-then-flags-eq0 : goal.returns-then-flags-eq0
-returns-then-flags-eq0 c = rw (not-false c.args.lead c.if-not-lead.false) (omega (arith, c.if-flags-eq0.true))
+returns-then-flags-eq0 c = rw c.if-not-lead.false (omega (arith, c.if-flags-eq0.true))
 
 pub returns : goal.returns
-returns c = rw (not-false c.args.lead c.if-not-lead.false)
+returns c = rw c.if-not-lead.false

@@ -5,16 +5,16 @@ use Rattle.salvage_page.proofs.Decided.{form-kept, form_through, form-other}
 use Rattle.salvage_page.proofs.form_of.Goals as goal
 
 pub returns-then-not-cut : goal.returns-then-not-cut
-returns-then-not-cut c = 
+returns-then-not-cut c =
     let a = c.args in
-    rw (not-true a.cut c.if-not-cut.true) (form-kept a.prior a.link c.prior_cut-lead.ensures)
+    rw c.if-not-cut.true (form-kept a.prior a.link c.prior_cut-lead.ensures)
 
 pub returns-then-link : goal.returns-then-link
-returns-then-link c = 
+returns-then-link c =
     let a = c.args in
-    rw (not-false a.cut c.if-not-cut.false) (form_through a.prior a.link c.if-link.true)
+    rw c.if-not-cut.false (form_through a.prior a.link c.if-link.true)
 
 pub returns : goal.returns
-returns c = 
+returns c =
     let a = c.args in
-    rw (not-false a.cut c.if-not-cut.false) (form-other a.prior a.link c.prior_cut-lead.ensures c.if-link.false)
+    rw c.if-not-cut.false (form-other a.prior a.link c.prior_cut-lead.ensures c.if-link.false)

@@ -8,7 +8,7 @@ pub returns-then-n-eq0 : goal.returns-then-n-eq0
 returns-then-n-eq0 c = sym (open_none c.args.continued c.args.lacing.now c.if-n-eq0.true)
 
 pub returns : goal.returns
-returns c = 
+returns c =
     let a = c.args in
     let l : Bytes = a.lacing.now in
     let n : ℕ = length l - 1 in

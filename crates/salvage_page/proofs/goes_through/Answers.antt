@@ -4,7 +4,7 @@ use borrow.Author.Tests.{not-true, not-false}
 use Rattle.salvage_page.proofs.goes_through.Goals as goal
 
 pub returns-then-not-continued : goal.returns-then-not-continued
-returns-then-not-continued c = rw (not-true c.args.continued c.if-not-continued.true)
+returns-then-not-continued c = rw c.if-not-continued.true
 
 pub returns : goal.returns
-returns c = rw (not-false c.args.continued c.if-not-continued.false, c.has_end.ensures)
+returns c = rw (c.if-not-continued.false, c.has_end.ensures)

@@ -6,7 +6,7 @@ use Rattle.salvage_page.proofs.lacing_kept.Goals as goal
 
 pub returns : goal.returns
 unfolding page_of
-returns c = 
+returns c =
     let a = c.args in
     rw (c.without_lead.ensures, c.without_trail-kept.ensures, c.lacing_of.ensures)
     (kept-lacing a.form.lead a.form.trail (page_of a.page.now))

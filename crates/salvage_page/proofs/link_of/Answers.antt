@@ -7,7 +7,7 @@ use Rattle.salvage_page.proofs.link_of.Goals as goal
 
 pub returns : goal.returns
 unfolding page_of header_of continued goes_on goes_through
-returns c = 
+returns c =
     rw (
       c.goes_through.ensures,
       c.goes_on.ensures,

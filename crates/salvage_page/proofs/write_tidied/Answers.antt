@@ -4,7 +4,7 @@ use Rattle.salvage_page.proofs.Kept.{wrote_as}
 use Rattle.salvage_page.proofs.write_tidied.Goals as goal
 
 pub returns : goal.returns
-returns c = 
+returns c =
     let a = c.args in
     wrote_as a.form a.number a.page.now _ c.header_kept-h.ensures c.lacing_kept-lacing.ensures c.body_kept-body.ensures
     c.write_any_page.ensures

@@ -11,7 +11,7 @@ use Rattle.salvage_search.proofs.Searching.{same_next}
 use Rattle.salvage_search.proofs.next_page.Goals as goal
 
 pub returns : goal.returns
-returns c = 
+returns c =
     let a = c.args in
     c.next_page_with.ensures
     ∙ same_next (page_sliced (entry_in c.tables-tables.result)) page_crc (λ (p : Bytes) (o : Octets p). page_sliced_right (entry_in c.tables-tables.result) c.tables-tables.ensures p o)

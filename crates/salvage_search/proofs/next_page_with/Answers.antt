@@ -13,18 +13,18 @@ use Rattle.salvage_search.proofs.Searching.{found, goes_on, over, begins}
 use Rattle.salvage_search.proofs.next_page_with.Goals as goal
 
 pub loop-at-init : goal.loop-at-init
-loop-at-init c = 
+loop-at-init c =
     let a = c.args in
     (omega (arith, c.least-at.ensures), rw c.least-at.ensures (begins (page_sliced (entry_in a.tables.now)) a.buffer.now a.from))
 
 pub loop-at-preserved : goal.loop-at-preserved
-loop-at-preserved c = 
+loop-at-preserved c =
     let l = c.loop-at in
     let a = c.args in
     (omega arith, sym (goes_on (page_sliced (entry_in a.tables.now)) a.buffer.now l.at (omega arith) (sym c.starts_at.ensures ∙ c.if-starts_at.false)) ∙ l.invariant.1)
 
 pub returns-then-at-buffer : goal.returns-then-at-buffer
-returns-then-at-buffer c = 
+returns-then-at-buffer c =
     let l = c.loop-at in
     let a = c.args in
     let b : Bytes = a.buffer.now in
@@ -32,7 +32,7 @@ returns-then-at-buffer c =
     end ∙ sym (over (page_sliced (entry_in a.tables.now)) b l.at (omega arith)) ∙ l.invariant.1
 
 pub returns-then-starts_at : goal.returns-then-starts_at
-returns-then-starts_at c = 
+returns-then-starts_at c =
     let l = c.loop-at in
     let a = c.args in
     sym (found (page_sliced (entry_in a.tables.now)) a.buffer.now l.at (omega arith) (sym c.starts_at.ensures ∙ c.if-starts_at.true)) ∙ l.invariant.1

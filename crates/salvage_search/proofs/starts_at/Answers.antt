@@ -16,12 +16,12 @@ first : (at : ℕ) (b : Bytes) → get_or (drop at b) 0 0 ≡ get_or b at 0
 first at b = let z : at + 0 ≡ at = omega arith in get_or-drop at b 0 0 ∙ ap (λ (k : ℕ). get_or b k 0) z
 
 pub returns-then-buffer-at-ne-FIRST : goal.returns-then-buffer-at-ne-FIRST
-returns-then-buffer-at-ne-FIRST c = 
+returns-then-buffer-at-ne-FIRST c =
     let a = c.args in
     sym (starts_otherwise _ (drop a.at a.buffer.now) (λ e. c.if-buffer-at-ne-FIRST.true (sym (first a.at a.buffer.now) ∙ e)))
 
 pub returns : goal.returns
-returns c = 
+returns c =
     let a = c.args in
     let b : Bytes = a.buffer.now in
     c.starts_page.ensures

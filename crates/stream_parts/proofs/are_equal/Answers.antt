@@ -37,7 +37,7 @@ pub bounds-b-i : goal.bounds-b-i
 bounds-b-i c = omega arith
 
 pub returns-then-a-i : goal.returns-then-a-i
-returns-then-a-i c = 
+returns-then-a-i c =
     let x = c.args in
     sym (other x.a.now x.b.now c.loop-i.i (omega arith) c.if-a-i.true) ∙ c.loop-i.invariant.0
 
@@ -48,7 +48,7 @@ pub loop-i-smaller : goal.loop-i-smaller
 loop-i-smaller c = omega arith
 
 pub loop-i-preserved : goal.loop-i-preserved
-loop-i-preserved c = 
+loop-i-preserved c =
     let x = c.args in
     (same x.a.now x.b.now c.loop-i.i (omega arith) c.if-a-i.false ∙ c.loop-i.invariant.0, omega arith)
 

@@ -5,5 +5,5 @@ use Rattle.stream_parts.proofs.totals_after.Goals as goal
 
 pub returns : goal.returns
 unfolding totals_after
-returns c = 
+returns c =
     rw (c.whole_total-hole.ensures, c.whole_total-trimmed.ensures, c.whole_total-skipped.ensures, c.whole_total-kept.ensures)

@@ -14,12 +14,12 @@ pub bounds-s-i : goal.bounds-s-i
 bounds-s-i c = omega arith
 
 pub returns-then-b-low : goal.returns-then-b-low
-returns-then-b-low c = 
+returns-then-b-low c =
     let a = c.args in
     sym (too_low a.low a.high a.s.now c.loop-i.i (omega arith) c.if-b-low.true) ∙ c.loop-i.invariant.0
 
 pub returns-then-b-high : goal.returns-then-b-high
-returns-then-b-high c = 
+returns-then-b-high c =
     let a = c.args in
     sym (too_high a.low a.high a.s.now c.loop-i.i (omega arith) c.if-b-low.false c.if-b-high.true) ∙ c.loop-i.invariant.0
 
@@ -30,7 +30,7 @@ pub loop-i-smaller : goal.loop-i-smaller
 loop-i-smaller c = omega arith
 
 pub loop-i-preserved : goal.loop-i-preserved
-loop-i-preserved c = 
+loop-i-preserved c =
     let a = c.args in
     (within a.low a.high a.s.now c.loop-i.i (omega arith) c.if-b-low.false c.if-b-high.false ∙ c.loop-i.invariant.0, omega arith)
 

@@ -8,14 +8,13 @@ use Rattle.tags_comment.specs.Gain.{all_digits, decimal}
 use Rattle.tags_comment.proofs.Within.{low-there, high-there, others}
 use Rattle.tags_comment.proofs.Gain.{digit-more, ten_more, room}
 use Rattle.tags_comment.proofs.decimal.Goals as goal
-use Rattle.tags_comment.proofs.decimal.Lts as lts
 
 -- the byte is a digit
-low : (c : lts.After-shared_slice_known-1 invariant_loop decreases_loop) → 0x30 ≤ get_or c.args.d.now c.loop-i.i 0
+low : (c : goal.After-shared_slice_known-1) → 0x30 ≤ get_or c.args.d.now c.loop-i.i 0
 low c =
     low-there 0x30 0x39 c.args.d.now c.loop-i.i (omega arith) c.loop-i.invariant.1
 
-high : (c : lts.After-shared_slice_known-1 invariant_loop decreases_loop) → get_or c.args.d.now c.loop-i.i 0 ≤ 0x39
+high : (c : goal.After-shared_slice_known-1) → get_or c.args.d.now c.loop-i.i 0 ≤ 0x39
 high c =
     high-there 0x30 0x39 c.args.d.now c.loop-i.i (omega arith) c.loop-i.invariant.1
 
@@ -44,7 +43,7 @@ pub loop-i-smaller : goal.loop-i-smaller
 loop-i-smaller c = omega arith
 
 pub loop-i-preserved : goal.loop-i-preserved
-loop-i-preserved c = 
+loop-i-preserved c =
     let d = c.args.d.now in (
       digit-more d c.loop-i.i (omega arith) c.loop-i.x ∙ c.loop-i.invariant.0,
       others 0x30 0x39 d c.loop-i.i (omega arith) c.loop-i.invariant.1,

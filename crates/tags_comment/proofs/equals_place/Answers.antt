@@ -14,7 +14,7 @@ pub bounds-c-i : goal.bounds-c-i
 bounds-c-i c = omega arith
 
 pub returns-then-c-i-eq61 : goal.returns-then-c-i-eq61
-returns-then-c-i-eq61 c = 
+returns-then-c-i-eq61 c =
     omega (arith, equals-here c.args.c.now c.loop-i.i (omega arith) c.if-c-i-eq61.true)
 
 pub overflow_add-i : goal.overflow_add-i
@@ -24,7 +24,7 @@ pub loop-i-smaller : goal.loop-i-smaller
 loop-i-smaller c = omega arith
 
 pub loop-i-preserved : goal.loop-i-preserved
-loop-i-preserved c = 
+loop-i-preserved c =
     (omega (arith, no_equals_here c.args.c.now c.loop-i.i (omega arith) c.if-c-i-eq61.false), omega arith)
 
 pub returns : goal.returns

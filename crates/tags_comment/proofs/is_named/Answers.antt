@@ -6,13 +6,13 @@ use Rattle.tags_comment.proofs.Names.{nameless, named}
 use Rattle.tags_comment.proofs.is_named.Goals as goal
 
 pub returns-then-place-c : goal.returns-then-place-c
-returns-then-place-c c = 
+returns-then-place-c c =
     let place = c.equals_place-place in
     let a = c.args in
     sym (nameless a.c.now place.result place.ensures a.name.now c.if-place-c.true)
 
 pub returns : goal.returns
-returns c = 
+returns c =
     let place = c.equals_place-place in
     let a = c.args in
     c.same_name.ensures ∙ ap (same_name a.name.now) c.part_of.ensures

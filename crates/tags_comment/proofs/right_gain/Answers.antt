@@ -7,29 +7,28 @@ use Rattle.octets.proofs.Tests.{failed, held}
 use Rattle.tags_comment.specs.Gain.{all_digits}
 use Rattle.tags_comment.proofs.Gain.{too_long, no_digit, not-digits, size_decides, few-digits}
 use Rattle.tags_comment.proofs.right_gain.Goals as goal
-use Rattle.tags_comment.proofs.right_gain.Lts as lts
 
 -- the digits, where the third test was passed
-digits : (c : lts.Else-not-all_within) → all_digits c.digits_of-d.result.now ≡ true
+digits : (c : goal.Else-not-all_within) → all_digits c.digits_of-d.result.now ≡ true
 digits c = held c.all_within.ensures c.if-not-all_within.false
 
 pub returns-then-t-gt6 : goal.returns-then-t-gt6
 returns-then-t-gt6 c = sym (too_long c.args.t.now c.if-t-gt6.true)
 
 pub returns-then-d-lt1 : goal.returns-then-d-lt1
-returns-then-d-lt1 c = 
+returns-then-d-lt1 c =
     let d = c.digits_of-d in
     sym (no_digit c.args.t.now d.result.now c.if-t-gt6.false d.ensures c.if-d-lt1.true)
 
 pub returns-then-not-all_within : goal.returns-then-not-all_within
-returns-then-not-all_within c = 
+returns-then-not-all_within c =
     let d = c.digits_of-d in
     sym
     (not-digits c.args.t.now d.result.now c.if-t-gt6.false d.ensures c.if-d-lt1.false
     (failed c.all_within.ensures c.if-not-all_within.true))
 
 pub decimal-requires : goal.decimal-requires
-decimal-requires c = 
+decimal-requires c =
     let d = c.digits_of-d in
     record {
       digits = digits c;
@@ -37,8 +36,8 @@ decimal-requires c =
     }
 
 pub returns : goal.returns
-returns c = 
-    let third = c.before.before in
+returns c =
+    let third = c.before.before.before in
     let d = third.digits_of-d in
     ap₂ leb c.decimal.ensures c.most_of.ensures
     ∙ sym (size_decides third.args.t.now d.result.now third.if-t-gt6.false d.ensures third.if-d-lt1.false (digits third))

@@ -22,7 +22,7 @@ pub bounds-m-i : goal.bounds-m-i
 bounds-m-i c = omega arith
 
 pub returns-then-upper : goal.returns-then-upper
-returns-then-upper c = 
+returns-then-upper c =
     let a = c.args in
     sym (other_letter a.n.now a.m.now c.loop-i.i (omega arith) (omega arith) (differs c.upper.ensures c.upper-in-loop-i.ensures c.if-upper.true))
     ∙ c.loop-i.invariant.0
@@ -34,7 +34,7 @@ pub loop-i-smaller : goal.loop-i-smaller
 loop-i-smaller c = omega arith
 
 pub loop-i-preserved : goal.loop-i-preserved
-loop-i-preserved c = 
+loop-i-preserved c =
     let a = c.args in (
       same_letter a.n.now a.m.now c.loop-i.i (omega arith) (omega arith) (agrees c.upper.ensures c.upper-in-loop-i.ensures c.if-upper.false)
           ∙ c.loop-i.invariant.0,
@@ -44,6 +44,6 @@ loop-i-preserved c =
 
 pub returns : goal.returns
 unfolding same_name
-returns c = 
+returns c =
     let a = c.args in
     rw (drop_of_length-le a.n.now c.loop-i-test.false, drop_of_length-le a.m.now {i = c.loop-i.i} (omega arith)) at c.loop-i.invariant.0

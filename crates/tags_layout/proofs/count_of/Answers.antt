@@ -6,6 +6,6 @@ use Rattle.octets.specs.Numbers.{number}
 use Rattle.tags_layout.proofs.count_of.Goals as goal
 
 pub returns : goal.returns
-returns c = 
+returns c =
     let b = c.args.b.now in
     c.number32.ensures ∙ ap (number 4 b) (omega (arith, c.vendor_size-vendor.ensures))

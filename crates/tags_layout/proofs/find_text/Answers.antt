@@ -7,19 +7,18 @@ use Rattle.octets.proofs.Tests.{failed, held}
 use Rattle.tags_layout.specs.Layout.{next_place}
 use Rattle.tags_layout.proofs.Fitting.{inside, no_part, a_part}
 use Rattle.tags_layout.proofs.find_text.Goals as goal
-use Rattle.tags_layout.proofs.find_text.Lts as lts
 
 -- the text is inside, where the test was held
-within : (c : lts.Else-not-fits_at) → next_place c.args.b.now c.args.at ≤ length c.args.b.now
+within : (c : goal.Else-not-fits_at) → next_place c.args.b.now c.args.at ≤ length c.args.b.now
 within c = let a = c.args in inside a.b.now a.at (held c.fits_at.ensures c.if-not-fits_at.false)
 
 pub returns-then-not-fits_at : goal.returns-then-not-fits_at
 returns-then-not-fits_at c = let a = c.args in sym (no_part a.b.now a.at (failed c.fits_at.ensures c.if-not-fits_at.true))
 
 pub overflow_add-result : goal.overflow_add-result
-overflow_add-result c = let w = within c.before in search rules
+overflow_add-result c = let w = within c.before.before in search rules
 
 pub returns : goal.returns
-returns c = 
+returns c =
     let a = c.args in
     sym (a_part a.b.now a.at c.number32-size.result (held c.fits_at.ensures c.if-not-fits_at.false) c.number32-size.ensures)

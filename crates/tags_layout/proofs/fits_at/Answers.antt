@@ -12,6 +12,6 @@ pub returns-then-b-at-lt4 : goal.returns-then-b-at-lt4
 returns-then-b-at-lt4 c = let a = c.args in sym (no_length a.b.now a.at (omega arith))
 
 pub returns : goal.returns
-returns c = 
+returns c =
     let a = c.args in
     has-length a.b.now a.at c.number32.result (omega arith) c.number32.ensures

@@ -21,12 +21,12 @@ short : {s t : Bytes} → s ≡ t → length s ≤ end_most → length t ≤ end
 short same h = rw same at h
 
 pub returns-then-not-is_gain : goal.returns-then-not-is_gain
-returns-then-not-is_gain c = 
+returns-then-not-is_gain c =
     let same = sym (end-plain c.args.c.now (failed c.is_gain.ensures c.if-not-is_gain.true)) in
     record { laid = laid-known same (laid-put (omega (arith, c.requires)) c.put_bytes.ensures); short = short same (omega arith) }
 
 pub returns-in-Gain : goal.returns-in-Gain
-returns-in-Gain c = 
+returns-in-Gain c =
     let told = c.comment_gain.ensures in
     let same = sym (end-gain c.args.c.now (held c.is_gain.ensures c.if-not-is_gain.false) ∙ ap gain_end (sym told ∙ ap told_gain c.in-Gain.is)) in
     let g = c.in-Gain.g in
@@ -38,7 +38,7 @@ returns-in-Gain c =
     }
 
 pub returns-in-Refused : goal.returns-in-Refused
-returns-in-Refused c = 
+returns-in-Refused c =
     let told = c.comment_gain.ensures in
     let same = sym (end-gain c.args.c.now (held c.is_gain.ensures c.if-not-is_gain.false) ∙ ap gain_end (sym told ∙ ap told_gain c.in-Refused.is)) in
     record { laid = laid-known same (laid-put (omega (arith, c.requires)) c.put_bytes-in-Refused.ensures); short = short same (omega arith) }

@@ -13,20 +13,20 @@ pub returns-then-not-begins_with : goal.returns-then-not-begins_with
 returns-then-not-begins_with c = sym (no_signature c.args.b.now (failed c.begins_with.ensures c.if-not-begins_with.true))
 
 pub returns-then-not-fits_at : goal.returns-then-not-fits_at
-returns-then-not-fits_at c = 
+returns-then-not-fits_at c =
     sym
     (no_vendor c.args.b.now (held c.begins_with.ensures c.if-not-begins_with.false)
     (failed c.fits_at.ensures c.if-not-fits_at.true))
 
 pub returns-then-not-is_utf8 : goal.returns-then-not-is_utf8
-returns-then-not-is_utf8 c = 
+returns-then-not-is_utf8 c =
     sym
     (no_characters c.args.b.now (held c.begins_with.ensures c.if-not-begins_with.false)
     (held c.fits_at.ensures c.if-not-fits_at.false)
     (failed (rw (c.part_of.ensures, c.vendor_size-vendor.ensures) at c.is_utf8.ensures) c.if-not-is_utf8.true))
 
 pub returns-then-b-first : goal.returns-then-b-first
-returns-then-b-first c = 
+returns-then-b-first c =
     sym
     (no_count c.args.b.now (held c.begins_with.ensures c.if-not-begins_with.false)
     (held c.fits_at.ensures c.if-not-fits_at.false)
@@ -34,7 +34,7 @@ returns-then-b-first c =
     (omega (arith, c.first_comment-first.ensures)))
 
 pub returns : goal.returns
-returns c = 
+returns c =
     ap (λ (k : ℕ). At k false false) c.first_comment-first.ensures
     ∙ sym
     (at_first c.args.b.now (held c.begins_with.ensures c.if-not-begins_with.false)

@@ -9,9 +9,13 @@ use Rattle.tags_reader.specs.Reading.{find_comment}
 use Rattle.tags_reader.proofs.Finding.{not_found, no_such_comment, end_decides, comment-found}
 use Rattle.tags_reader.proofs.find_comment.Goals as goal
 use Rattle.tags_reader.proofs.find_comment.Lts as lts
+use Rattle.tags_reader.proofs.find_comment.Tie as tie
+
+abbrev After-is_right : Type 0
+After-is_right = lts.After-is_right tie.the-claims tie.handed_pre tie.handed_post
 
 -- the second walk decides
-decides : (c : lts.After-is_right)
+decides : (c : After-is_right)
     → c.is_right.result ≡ is_tags c.args.b.now
 decides c =
     c.is_right.ensures
@@ -20,19 +24,19 @@ decides c =
     c.walk_by-end.ensures (omega (arith, c.least-before.ensures))
 
 pub returns-then-not-is_right : goal.returns-then-not-is_right
-returns-then-not-is_right c = 
+returns-then-not-is_right c =
     let a = c.args in
-    sym (not_found a.b.now (failed (decides c.before) c.if-not-is_right.true) a.i)
+    sym (not_found a.b.now (failed (decides c.before.before) c.if-not-is_right.true) a.i)
 
 pub returns-then-n-i : goal.returns-then-n-i
-returns-then-n-i c = 
+returns-then-n-i c =
     let a = c.args in
     sym
-    (no_such_comment a.b.now (held (decides c.before) c.if-not-is_right.false) a.i (omega (arith, c.count_of-n.ensures, c.if-n-i.true)))
+    (no_such_comment a.b.now (held (decides c.before.before) c.if-not-is_right.false) a.i (omega (arith, c.count_of-n.ensures, c.if-n-i.true)))
 
 pub returns : goal.returns
-returns c = 
-    let test = c.before in
+returns c =
+    let test = c.before.before in
     let a = test.args in
     let b = a.b.now in
     let here-is : test.least-before.result ≡ a.i = omega (arith, test.least-before.ensures, c.if-n-i.false) in

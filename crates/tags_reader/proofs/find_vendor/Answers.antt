@@ -9,6 +9,6 @@ pub returns-then-not-is_tags : goal.returns-then-not-is_tags
 returns-then-not-is_tags c = sym (no_vendor c.args.b.now (failed c.is_tags.ensures c.if-not-is_tags.true))
 
 pub returns : goal.returns
-returns c = 
+returns c =
     c.find_text.ensures
     ∙ vendor-found c.args.b.now (held c.is_tags.ensures c.if-not-is_tags.false)

@@ -7,7 +7,7 @@ use Rattle.tags_reader.proofs.Checking.{walk_is_tags}
 use Rattle.tags_reader.proofs.is_tags.Goals as goal
 
 pub returns : goal.returns
-returns c = 
+returns c =
     let b = c.args.b.now in
     c.is_right.ensures
     ∙ ap (λ (w : Walk). is_right w)

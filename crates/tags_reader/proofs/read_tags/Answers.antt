@@ -9,6 +9,6 @@ pub returns-then-not-is_tags : goal.returns-then-not-is_tags
 returns-then-not-is_tags c = sym (not-read c.args.b.now (failed c.is_tags.ensures c.if-not-is_tags.true))
 
 pub returns : goal.returns
-returns c = 
+returns c =
     count-read c.args.b.now (held c.is_tags.ensures c.if-not-is_tags.false)
     c.count_of.result c.count_of.ensures

@@ -8,25 +8,24 @@ use Rattle.tags_layout.specs.Layout.{next_place}
 use Rattle.tags_layout.proofs.Fitting.{inside}
 use Rattle.tags_reader.proofs.Walking.{no_text, stops, goes_on}
 use Rattle.tags_reader.proofs.step.Goals as goal
-use Rattle.tags_reader.proofs.step.Lts as lts
 
 -- the text is inside, where the test was held
-within : (c : lts.Else-not-fits_at) → next_place c.args.b.now c.args.at ≤ length c.args.b.now
+within : (c : goal.Else-not-fits_at) → next_place c.args.b.now c.args.at ≤ length c.args.b.now
 within c = let a = c.args in inside a.b.now a.at (held c.fits_at.ensures c.if-not-fits_at.false)
 
 pub returns-then-not-fits_at : goal.returns-then-not-fits_at
-returns-then-not-fits_at c = 
+returns-then-not-fits_at c =
     let a = c.args in
     sym (no_text a.b.now a.at a.track a.album (failed c.fits_at.ensures c.if-not-fits_at.true))
 
 pub overflow_add-start : goal.overflow_add-start
-overflow_add-start c = let w = within c.before in search rules
+overflow_add-start c = let w = within c.before.before in search rules
 
 pub overflow_add-next : goal.overflow_add-next
-overflow_add-next c = let w = within c.before in search rules
+overflow_add-next c = let w = within c.before.before in search rules
 
 pub returns-in_default : goal.returns-in_default
-returns-in_default c = 
+returns-in_default c =
     let a = c.args in
     sym
     (stops a.b.now a.at a.track a.album c.number32-size.result c.judge.result
@@ -34,7 +33,7 @@ returns-in_default c =
     (rw c.part_of.ensures at c.judge.ensures) c.in_default.is)
 
 pub returns : goal.returns
-returns c = 
+returns c =
     let known = c.in-Seen.t-1.given in
     let a = c.args in
     sym

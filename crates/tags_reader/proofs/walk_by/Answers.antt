@@ -9,12 +9,12 @@ use Rattle.tags_reader.proofs.Walking.{walked-wrong, walk_begin, walk_more, walk
 use Rattle.tags_reader.proofs.walk_by.Goals as goal
 
 pub returns-in_default : goal.returns-in_default
-returns-in_default c = 
+returns-in_default c =
     let a = c.args in
     sym (ap (walked a.b.now a.n) c.in_default.is ∙ walked-wrong a.b.now a.n)
 
 pub loop-i-init : goal.loop-i-init
-loop-i-init c = 
+loop-i-init c =
     let a = c.args in
     let known = c.in-At.from-1.given in
     (walk_begin a.b.now a.n (At known.0.0 known.0.1.0 known.0.1.1.0), omega arith)
@@ -23,7 +23,7 @@ pub step-requires : goal.step-requires
 step-requires c = tt
 
 pub returns-in_default-step : goal.returns-in_default-step
-returns-in_default-step c = 
+returns-in_default-step c =
     let l = c.loop-i in
     let known = c.in-At.from-1.given in
     let a = c.args in
@@ -43,7 +43,7 @@ pub loop-i-smaller : goal.loop-i-smaller
 loop-i-smaller c = omega arith
 
 pub loop-i-preserved : goal.loop-i-preserved
-loop-i-preserved c = 
+loop-i-preserved c =
     let got = c.in-At-step.next-1.given in
     let l = c.loop-i in
     let a = c.args in
@@ -56,7 +56,7 @@ loop-i-preserved c =
     )
 
 pub returns : goal.returns
-returns c = 
+returns c =
     let l = c.loop-i in
     let a = c.args in
     let b = a.b.now in

@@ -6,10 +6,9 @@ use borrow.Author.Rules.{rules}
 use Rattle.tags_replaygain.specs.ReplayGain.{is_replay_gain}
 use Rattle.tags_replaygain.proofs.Comments.{Left, left-first, none_left, Turn, turn}
 use Rattle.tags_replaygain.proofs.any_from.Goals as goal
-use Rattle.tags_replaygain.proofs.any_from.Lts as lts
 
 -- the text that a turn is about
-in_turn : (c : lts.After-number32-size invariant_loop decreases_loop)
+in_turn : (c : goal.After-number32-size)
     → (let a = c.args in let l = c.loop-i in Turn a.b.now a.n a.start l.i l.at c.number32-size.result)
 in_turn c =
     let l = c.loop-i in
@@ -17,7 +16,7 @@ in_turn c =
     turn a.b.now a.n a.start l.i l.at c.number32-size.result l.invariant c.loop-i-test.true c.number32-size.ensures
 
 pub loop-i-init : goal.loop-i-init
-loop-i-init c = 
+loop-i-init c =
     let a = c.args in
     left-first a.b.now a.n a.start c.requires
 
@@ -25,12 +24,12 @@ pub overflow_add-text : goal.overflow_add-text
 overflow_add-text c = let w = (in_turn c).inside in search rules
 
 pub returns-then-is_replaygain : goal.returns-then-is_replaygain
-returns-then-is_replaygain c = 
-    (in_turn c.before.before).found
+returns-then-is_replaygain c =
+    (in_turn c.before.before.before).found
     (sym (c.is_replaygain.ensures ∙ ap is_replay_gain c.part_of.ensures) ∙ c.if-is_replaygain.true)
 
 pub overflow_add-at : goal.overflow_add-at
-overflow_add-at c = let w = (in_turn c.before.before.before).inside in search rules
+overflow_add-at c = let w = (in_turn c.before.before.before.before).inside in search rules
 
 pub overflow_add-i : goal.overflow_add-i
 overflow_add-i c = omega arith
@@ -39,12 +38,12 @@ pub loop-i-smaller : goal.loop-i-smaller
 loop-i-smaller c = omega arith
 
 pub loop-i-preserved : goal.loop-i-preserved
-loop-i-preserved c = 
-    (in_turn c.before.before).goes_on
+loop-i-preserved c =
+    (in_turn c.before.before.before).goes_on
     (sym (c.is_replaygain.ensures ∙ ap is_replay_gain c.part_of.ensures) ∙ c.if-is_replaygain.false)
 
 pub returns : goal.returns
-returns c = 
+returns c =
     let l = c.loop-i in
     let a = c.args in
     none_left a.b.now a.n a.start l.i l.at l.invariant c.loop-i-test.false

@@ -6,24 +6,23 @@ use Rattle.tags_reader.specs.Reading.{told_count}
 use Rattle.tags_replaygain.proofs.Comments.{any_from}
 use Rattle.tags_replaygain.proofs.Packet.{Counted, counted, all-fit, any_decides, no_tags}
 use Rattle.tags_replaygain.proofs.has_replaygain.Goals as goal
-use Rattle.tags_replaygain.proofs.has_replaygain.Lts as lts
 
 -- the packet was read, and has n comments
-has-count : (c : lts.After-first_comment) → Counted c.args.b.now c.in-Count.n
+has-count : (c : goal.After-first_comment) → Counted c.args.b.now c.in-Count.n
 has-count c =
     counted c.args.b.now c.in-Count.n (sym (ap told_count c.in-Count.is) ∙ c.read_tags.ensures)
 
 pub any_from-requires : goal.any_from-requires
-any_from-requires c = 
+any_from-requires c =
     let b = c.args.b.now in
     rw c.first_comment.ensures (all-fit b c.in-Count.n (has-count c))
 
 pub returns-in-Count : goal.returns-in-Count
-returns-in-Count c = 
+returns-in-Count c =
     let n = c.in-Count.n in
     let b = c.args.b.now in
-    c.any_from.ensures ∙ ap (any_from b n) c.first_comment.ensures ∙ any_decides b n (has-count c.before)
+    c.any_from.ensures ∙ ap (any_from b n) c.first_comment.ensures ∙ any_decides b n (has-count c.before.before)
 
 pub returns-in-Refused : goal.returns-in-Refused
-returns-in-Refused c = 
+returns-in-Refused c =
     no_tags c.args.b.now (number_of c.in-Refused.field-0) (sym (ap told_count c.in-Refused.is) ∙ c.read_tags.ensures)

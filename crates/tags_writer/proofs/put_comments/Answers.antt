@@ -11,10 +11,9 @@ use Rattle.tags_reader.specs.Packet.{text_bytes, comments_bytes}
 use Rattle.tags_writer.specs.Writing.{cut_by}
 use Rattle.tags_writer.proofs.Laying.{all-copied, comment-inside, comment-length, rest_sum, comments-copied}
 use Rattle.tags_writer.proofs.put_comments.Goals as goal
-use Rattle.tags_writer.proofs.put_comments.Lts as lts
 
 -- what a turn takes from the text is inside it
-module _ (c : lts.In-loop-i invariant_loop decreases_loop) where
+module _ (c : goal.In-loop-i) where
   abbrev text : Bytes
   text = c.args.text.now
 
@@ -34,26 +33,26 @@ pub loop-i-init : goal.loop-i-init
 loop-i-init c = let sum = c.requires.sum in (refl, omega arith, omega arith, omega arith, omega arith, refl)
 
 pub put_text-requires : goal.put_text-requires
-put_text-requires c = 
-    let turn = c.before.before.before in
+put_text-requires c =
+    let turn = c.before.before.before.before in
     let size = ap length c.part_of.ensures ∙ sized turn in
     record { small = omega (arith, size, inside turn, turn.requires.small); room = omega (arith, size, inside turn) }
 
 pub overflow_add-at : goal.overflow_add-at
-overflow_add-at c = let small = inside c.before.before.before.before.before.before in search rules
+overflow_add-at c = let small = inside c.before.before.before.before.before.before.before in search rules
 
 pub overflow_add-at-in-loop-i : goal.overflow_add-at-in-loop-i
-overflow_add-at-in-loop-i c = let small = inside c.before.before.before.before.before.before in search rules
+overflow_add-at-in-loop-i c = let small = inside c.before.before.before.before.before.before.before in search rules
 
 pub overflow_add-from : goal.overflow_add-from
-overflow_add-from c = let small = inside c.before.before.before.before.before.before in search rules
+overflow_add-from c = let small = inside c.before.before.before.before.before.before.before in search rules
 
 pub loop-i-smaller : goal.loop-i-smaller
 loop-i-smaller c = omega arith
 
 pub loop-i-preserved : goal.loop-i-preserved
-loop-i-preserved c = 
-    let turn = c.before.before.before.before in
+loop-i-preserved c =
+    let turn = c.before.before.before.before.before in
     let l = turn.loop-i in
     let s = text turn in
     let ns = lengths turn in
@@ -76,7 +75,7 @@ pub shape_of-out : goal.shape_of-out
 shape_of-out c = c.loop-i.invariant.5
 
 pub returns : goal.returns
-returns c = 
+returns c =
     let l = c.loop-i in
     let a = c.args in
     all-copied l.out a.text.now a.lengths.now l.at l.from l.i c.loop-i-test.false (omega arith) ∙ l.invariant.0

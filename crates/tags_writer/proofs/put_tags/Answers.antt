@@ -4,7 +4,7 @@ use Rattle.tags_writer.proofs.Laying.{packet-copied}
 use Rattle.tags_writer.proofs.put_tags.Goals as goal
 
 pub returns : goal.returns
-returns c = 
+returns c =
     let a = c.args in
     packet-copied a.vendor.now a.text.now a.lengths.now c.requires.sum a.out.now c.copy_at.new.0
     c.put_text.new.0 c.put32.new.0 c.put_comments.new.0 c.requires.room

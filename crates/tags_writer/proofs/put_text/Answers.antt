@@ -7,7 +7,7 @@ use Rattle.tags_writer.proofs.Laying.{text-copied}
 use Rattle.tags_writer.proofs.put_text.Goals as goal
 
 pub returns : goal.returns
-returns c = 
+returns c =
     let a = c.args in
     c.copy_at.ensures
     ∙ ap (λ (d : Bytes). copied d (a.at + 4) a.t.now) c.put32.ensures

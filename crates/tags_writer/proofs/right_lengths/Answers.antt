@@ -10,18 +10,18 @@ use Rattle.tags_writer.proofs.Lengths.{rest_right, too_long, comment-wrong, comm
 use Rattle.tags_writer.proofs.right_lengths.Goals as goal
 
 pub loop-i-init : goal.loop-i-init
-loop-i-init c = 
+loop-i-init c =
     let a = c.args in
     (lengths_begin a.text.now a.lengths.now, omega arith, omega arith)
 
 pub returns-then-text-at : goal.returns-then-text-at
-returns-then-text-at c = 
+returns-then-text-at c =
     let l = c.loop-i in
     let a = c.args in
     sym (too_long a.text.now a.lengths.now l.at l.track l.album l.i c.loop-i-test.true c.if-text-at.true) ∙ l.invariant.0
 
 pub returns-in_default : goal.returns-in_default
-returns-in_default c = 
+returns-in_default c =
     let l = c.loop-i in
     let a = c.args in
     let judge = rw c.part_of.ensures at c.judge.ensures in
@@ -34,7 +34,7 @@ pub loop-i-smaller : goal.loop-i-smaller
 loop-i-smaller c = omega arith
 
 pub loop-i-preserved : goal.loop-i-preserved
-loop-i-preserved c = 
+loop-i-preserved c =
     let got = c.in-Seen.t-1.given in
     let l = c.loop-i in
     let a = c.args in
@@ -48,7 +48,7 @@ loop-i-preserved c =
     )
 
 pub returns : goal.returns
-returns c = 
+returns c =
     let l = c.loop-i in
     let a = c.args in
     sym (lengths-done a.text.now a.lengths.now l.at l.track l.album l.i c.loop-i-test.false (omega arith))

@@ -11,10 +11,9 @@ use Rattle.limits.specs.Limits.{packet_max}
 use Rattle.tags_writer.specs.Code.{packet_size, right_fields}
 use Rattle.tags_writer.proofs.Taking.{sums_right, size_right, refused-fields, refused-room, wrote_packet}
 use Rattle.tags_writer.proofs.write_tags.Goals as goal
-use Rattle.tags_writer.proofs.write_tags.Lts as lts
 
 -- the fields are right, where the first test was held
-module _ (c : lts.Else-not-right_fields) where
+module _ (c : goal.Else-not-right_fields) where
   abbrev vendor : Bytes
   vendor = c.args.vendor.now
 
@@ -31,7 +30,7 @@ module _ (c : lts.Else-not-right_fields) where
   small = (size_right vendor text lengths right).1
 
 pub returns-then-not-right_fields : goal.returns-then-not-right_fields
-returns-then-not-right_fields c = 
+returns-then-not-right_fields c =
     let a = c.args in
     refused-fields a.vendor.now a.text.now a.lengths.now a.out.now (failed c.right_fields.ensures c.if-not-right_fields.true)
 
@@ -39,15 +38,15 @@ pub packet_size-size-requires : goal.packet_size-size-requires
 packet_size-size-requires c = let most = small c in search rules
 
 pub returns-then-out-size : goal.returns-then-out-size
-returns-then-out-size c = 
-    let first = c.before.before in
+returns-then-out-size c =
+    let first = c.before.before.before in
     let a = first.args in
     refused-room a.vendor.now a.text.now a.lengths.now a.out.now (right first)
     (omega (arith, c.packet_size-size.ensures, c.if-out-size.true))
 
 pub put_tags-requires : goal.put_tags-requires
-put_tags-requires c = 
-    let first = c.before.before in
+put_tags-requires c =
+    let first = c.before.before.before in
     let a = first.args in
     record {
       sum = sums_right a.vendor.now a.text.now a.lengths.now (right first);
@@ -56,8 +55,8 @@ put_tags-requires c =
     }
 
 pub returns : goal.returns
-returns c = 
-    let first = c.before.before in
+returns c =
+    let first = c.before.before.before in
     let a = first.args in
     let size = c.packet_size-size in
     rw size.ensures

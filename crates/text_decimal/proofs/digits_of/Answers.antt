@@ -20,6 +20,6 @@ pub loop-rest-preserved : goal.loop-rest-preserved
 loop-rest-preserved c = let l = c.loop-rest in (omega (arith, length_more l.rest c.loop-rest-test.true), l.invariant.1)
 
 pub returns : goal.returns
-returns c = 
+returns c =
     let l = c.loop-rest in
     omega (arith, ap length (decimal-one l.rest c.loop-rest-test.false))

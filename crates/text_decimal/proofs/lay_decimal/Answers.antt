@@ -23,7 +23,7 @@ pub shape_of-out : goal.shape_of-out
 shape_of-out c = omega arith
 
 pub returns : goal.returns
-returns c = 
+returns c =
     let x = c.args.x in
     let size = length_eights x (omega arith) in
     let last = laid_as 8 refl (length-eight (x % 100000000)) c.put_eight.ensures in

@@ -9,9 +9,13 @@ use Rattle.text_put.proofs.Putting.{put-laid, put-nothing}
 use Rattle.text_decimal.specs.Decimal.{decimal}
 use Rattle.text_decimal.proofs.put_decimal.Goals as goal
 use Rattle.text_decimal.proofs.put_decimal.Lts as lts
+use Rattle.text_decimal.proofs.put_decimal.Tie as tie
+
+abbrev Else-lacks_digits : Type 0
+Else-lacks_digits = lts.Else1 tie.the-claims tie.handed_pre tie.handed_post
 
 -- the digits fit
-fits : (c : lts.Else-lacks_digits) → let a = c.args in a.at + length (decimal a.x) ≤ length a.out.now
+fits : (c : Else-lacks_digits) → let a = c.args in a.at + length (decimal a.x) ≤ length a.out.now
 fits c =
     let a = c.args in
     let test = ltb-false (length a.out.now) (a.at + (length (decimal a.x) + 0)) (sym c.lacks_digits.ensures ∙ c.if-lacks_digits.false) in
@@ -21,13 +25,13 @@ pub lacks_digits-requires : goal.lacks_digits-requires
 lacks_digits-requires c = omega arith
 
 pub returns-then-lacks_digits : goal.returns-then-lacks_digits
-returns-then-lacks_digits c = 
+returns-then-lacks_digits c =
     let a = c.args in
     let short = ltb-true (length a.out.now) (a.at + (length (decimal a.x) + 0)) (sym c.lacks_digits.ensures ∙ c.if-lacks_digits.true) in
     put-nothing (omega arith)
 
 pub lay_decimal-requires : goal.lay_decimal-requires
-lay_decimal-requires c = fits c.before
+lay_decimal-requires c = fits c.before.before
 
 pub returns : goal.returns
-returns c = put-laid (fits c.before.before.before.before) c.lay_decimal.ensures
+returns c = put-laid (fits c.before.before.before.before.before) c.lay_decimal.ensures

@@ -16,7 +16,7 @@ pub shape_of-out : goal.shape_of-out
 shape_of-out c = omega arith
 
 pub returns : goal.returns
-returns c = 
+returns c =
     let a = c.args in
     let s = lowest 4 (a.x / 10000) in
     let t = lowest 4 (a.x % 10000) in

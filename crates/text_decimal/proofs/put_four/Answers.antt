@@ -5,6 +5,6 @@ use Rattle.octets.specs.Octets.{copied}
 use Rattle.text_decimal.proofs.put_four.Goals as goal
 
 pub returns : goal.returns
-returns c = 
+returns c =
     let a = c.args in
     c.put_word.ensures ∙ ap (copied a.out.now a.at) c.four_digits.ensures

@@ -23,7 +23,7 @@ pub shape_of-out : goal.shape_of-out
 shape_of-out c = omega arith
 
 pub returns : goal.returns
-returns c = 
+returns c =
     let x = c.args.x in
     let size = length_fours x (omega arith) in
     let last = laid_as 4 refl (length-lowest 4 (x % 10000)) c.put_four.ensures in

@@ -9,15 +9,14 @@ use Rattle.text_put.proofs.Laying.{one_store, two_stores, three_stores, laid_as}
 use Rattle.text_decimal.specs.Decimal.{digit, decimal}
 use Rattle.text_decimal.proofs.Decimal.{decimal-one, decimal-two, decimal-three, decimal-four, length-lowest}
 use Rattle.text_decimal.proofs.put_short.Goals as goal
-use Rattle.text_decimal.proofs.put_short.Lts as lts
 
-one : (c : lts.Then-x-lt10) → let x = c.args.x in decimal x ≡ digit x ∷ []
+one : (c : goal.Then-x-lt10) → let x = c.args.x in decimal x ≡ digit x ∷ []
 one c = decimal-one c.args.x c.if-x-lt10.true
 
-two : (c : lts.Then-x-lt100) → let x = c.args.x in decimal x ≡ digit (x / 10) ∷ digit (x % 10) ∷ []
+two : (c : goal.Then-x-lt100) → let x = c.args.x in decimal x ≡ digit (x / 10) ∷ digit (x % 10) ∷ []
 two c = decimal-two c.args.x (omega arith) (omega arith)
 
-three : (c : lts.Then-x-lt1000) → let x = c.args.x in decimal x ≡ digit (x / 100) ∷ digit (x / 10 % 10) ∷ digit (x % 10) ∷ []
+three : (c : goal.Then-x-lt1000) → let x = c.args.x in decimal x ≡ digit (x / 100) ∷ digit (x / 10 % 10) ∷ digit (x % 10) ∷ []
 three c = decimal-three c.args.x (omega arith) (omega arith)
 
 pub overflow_add-out : goal.overflow_add-out
@@ -102,7 +101,7 @@ pub returns-then-x-lt1000 : goal.returns-then-x-lt1000
 returns-then-x-lt1000 c = laid_as 3 (three c) refl (three_stores _ _ _ _ _ (omega (arith, ap length (three c))))
 
 pub put_four-requires : goal.put_four-requires
-put_four-requires c = 
+put_four-requires c =
     let x = c.args.x in
     let size = ap length (decimal-four x (omega arith) (omega arith)) in
     omega (arith, length-lowest 4 x)
@@ -111,6 +110,6 @@ pub overflow_add-result-2 : goal.overflow_add-result-2
 overflow_add-result-2 c = omega arith
 
 pub returns : goal.returns
-returns c = 
+returns c =
     let x = c.args.x in
     laid_as 4 (decimal-four x (omega arith) (omega arith)) (length-lowest 4 x) c.put_four.ensures

@@ -42,6 +42,6 @@ pub bounds-out-at-4 : goal.bounds-out-at-4
 bounds-out-at-4 c = simp length-set (omega arith)
 
 pub returns : goal.returns
-returns c = 
+returns c =
     let a = c.args in
     four_stores a.out.now a.at _ _ _ _ c.requires ∙ ap (copied a.out.now a.at) (sym (word_places a.w))

@@ -32,6 +32,6 @@ pub overflow_add-result-4 : goal.overflow_add-result-4
 overflow_add-result-4 c = omega arith
 
 pub returns : goal.returns
-returns c = 
+returns c =
     let byte = c.wide in
     three_right c.args.x c.args.b byte.result c.requires.least c.requires.below byte.ensures.same (omega (arith, byte.ensures.most))

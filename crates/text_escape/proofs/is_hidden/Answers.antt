@@ -50,5 +50,5 @@ is_within-requires-15 c = tt
 
 pub returns : goal.returns
 unfolding is_hidden
-returns c = 
+returns c =
     simp (or_assoc, or-false) (cc)

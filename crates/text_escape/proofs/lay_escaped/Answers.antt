@@ -8,9 +8,13 @@ use Rattle.text_put.proofs.Filling.{Filling, filling_first, filling_next, fillin
 use Rattle.text_escape.proofs.Escaping.{one_more, no_more}
 use Rattle.text_escape.proofs.lay_escaped.Goals as goal
 use Rattle.text_escape.proofs.lay_escaped.Lts as lts
+use Rattle.text_escape.proofs.lay_escaped.Tie as tie
+
+abbrev After-bytes_shown-n : Type 0
+After-bytes_shown-n = lts.After-bytes_shown tie.the-claims tie.handed_pre tie.handed_post goal.the-invariant-loop-i goal.the-decreases-loop-i
 
 -- what is left at the loop's place: an image and the rest
-split : (c : lts.After-bytes_shown-n invariant_loop decreases_loop)
+split : (c : After-bytes_shown-n)
     → let l = c.before.before in
     let a = l.args in
     let n = c.bytes_shown-n.result in
@@ -32,8 +36,8 @@ pub bounds-s-i : goal.bounds-s-i
 bounds-s-i c = omega arith
 
 pub put_image-place-requires : goal.put_image-place-requires
-put_image-place-requires c = 
-    let seen = c.before.before in
+put_image-place-requires c =
+    let seen = c.before.before.before in
     let a = seen.args in
     let n = seen.bytes_shown-n.result in
     let both = length-append (image_of (is_shown n) (get_or a.s.now seen.loop-i.i 0)) (escaped_from (n - 1) (drop (seen.loop-i.i + 1) a.s.now)) in
@@ -49,14 +53,14 @@ pub loop-i-smaller : goal.loop-i-smaller
 loop-i-smaller c = omega arith
 
 pub loop-i-preserved : goal.loop-i-preserved
-loop-i-preserved c = 
-    let seen = c.before.before.before in
+loop-i-preserved c =
+    let seen = c.before.before.before.before in
     rw c.less_one-k.ensures (filling_next (split seen) c.put_image-place.ensures seen.requires)
 
 pub shape_of-out : goal.shape_of-out
 shape_of-out c = c.loop-i.invariant.size
 
 pub returns : goal.returns
-returns c = 
+returns c =
     let a = c.args in
     filling_done (rw (no_more a.s.now c.loop-i.i c.loop-i.k c.loop-i-test.false) at c.loop-i.invariant) c.requires

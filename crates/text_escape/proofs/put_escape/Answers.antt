@@ -7,10 +7,9 @@ use lib.ListN.{length, length-set}
 use Rattle.text_put.proofs.Laying.{four_stores, laid_as}
 use Rattle.text_escape.proofs.Escaping.{escape_backslash, escape_other}
 use Rattle.text_escape.proofs.put_escape.Goals as goal
-use Rattle.text_escape.proofs.put_escape.Lts as lts
 
 -- there is room for four bytes
-room : (c : lts.After-hex_digit-low) → let a = c.args in a.at + 4 ≤ length a.out.now
+room : (c : goal.After-hex_digit-low) → let a = c.args in a.at + 4 ≤ length a.out.now
 room c =
     rw (escape_other c.args.b _ _ c.if-b-eq92.false refl refl) at c.requires
 
@@ -42,6 +41,6 @@ pub overflow_add-result-2 : goal.overflow_add-result-2
 overflow_add-result-2 c = omega (arith, room c)
 
 pub returns : goal.returns
-returns c = 
+returns c =
     laid_as 4 (escape_other c.args.b _ _ c.if-b-eq92.false c.hex_digit-high.ensures c.hex_digit-low.ensures) refl
     (four_stores _ _ _ _ _ _ (room c))

@@ -24,7 +24,7 @@ pub overflow_add-result : goal.overflow_add-result
 overflow_add-result c = omega arith
 
 pub returns : goal.returns
-returns c = 
+returns c =
     let a = c.args in
     let hs = length-lowest 4 (a.x / 10000) in
     let ht = length-lowest 4 a.x in

@@ -9,11 +9,11 @@ use Rattle.text_gain.proofs.Texts.{laid_end}
 use Rattle.text_gain.proofs.lay_end.Goals as goal
 
 pub lay_decibels-last-requires : goal.lay_decibels-last-requires
-lay_decibels-last-requires c = 
+lay_decibels-last-requires c =
     let first = laid-put (omega (arith, c.requires)) c.put_bytes-second.ensures in
     omega (arith, c.requires, first.place, length-laid first)
 
 pub returns : goal.returns
-returns c = 
+returns c =
     laid_end c.args.g c.ranges.g.sfits c.requires c.put_bytes-second.ensures
     (laid-known (ap decibels (to_z-of_z c.ranges.g)) c.lay_decibels-last.ensures) c.put_bytes.ensures

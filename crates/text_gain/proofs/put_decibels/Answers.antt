@@ -8,7 +8,7 @@ use Rattle.text_gain.proofs.Texts.{length-end}
 use Rattle.text_gain.proofs.put_decibels.Goals as goal
 
 pub returns : goal.returns
-returns c = 
+returns c =
     let same = ap decibels_end (to_z-of_z c.ranges.g) in
     put-known same
     (put_made c.lay_end-n.ensures (rw (← same) at (length-end c.args.g c.ranges.g.sfits)) c.part_of.ensures c.put_bytes.ensures)

@@ -10,7 +10,7 @@ use Rattle.text_gain.proofs.Texts.{length_signed}
 use Rattle.text_gain.proofs.put_signed.Goals as goal
 
 pub returns : goal.returns
-returns c = 
+returns c =
     let same = ap signed_decimal (to_z-of_z c.ranges.g) in
     let short = length_signed c.args.g c.ranges.g.sfits in
     put-known same

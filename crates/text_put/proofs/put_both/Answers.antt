@@ -8,13 +8,13 @@ use Rattle.text_put.proofs.Putting.{put-laid, put-nothing, laid-put, laid_then}
 use Rattle.text_put.proofs.put_both.Goals as goal
 
 pub returns-then-is_short : goal.returns-then-is_short
-returns-then-is_short c = 
+returns-then-is_short c =
     let a = c.args in
     let short : length a.out.now < a.at + (length a.a.now + length a.b.now) = is_below c.is_short.ensures c.if-is_short.true in
     put-nothing (omega (arith, length-append a.a.now a.b.now))
 
 pub returns : goal.returns
-returns c = 
+returns c =
     let a = c.args in
     let both = length-append a.a.now a.b.now in
     let room : a.at + (length a.a.now + length a.b.now) ≤ length a.out.now =

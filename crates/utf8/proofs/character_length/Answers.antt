@@ -23,7 +23,7 @@ returns-in-4 c = record { same = ap length_by (sym c.in-4.is); most = omega arit
 
 pub returns-in_default : goal.returns-in_default
 unfolding character_length
-returns-in_default c = 
+returns-in_default c =
     let no = c.in_default.in_default-own.rest in
     record {
       same = simp (ne_eqb _ _ no.0.0.0.1, ne_eqb _ _ no.0.0.1, ne_eqb _ _ no.0.1, ne_eqb _ _ no.1);

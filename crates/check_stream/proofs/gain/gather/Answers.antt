@@ -8,12 +8,12 @@ use Rattle.check_stream.proofs.Gathering.{Gathers, gathers_first, gathers_end, b
 use Rattle.check_stream.proofs.gain.gather.Goals as goal
 
 pub loop-page-init : goal.loop-page-init
-loop-page-init c = 
+loop-page-init c =
     let a = c.args in
     gathers_first a.stream.now a.packet.now (length c.page_at-at.result.now) (ap length c.page_at-at.ensures)
 
 pub overflow_add-size : goal.overflow_add-size
-overflow_add-size c = 
+overflow_add-size c =
     omega (
       arith,
       c.well_formed.1.1.0,
@@ -22,7 +22,7 @@ overflow_add-size c =
     )
 
 pub overflow_add-at : goal.overflow_add-at
-overflow_add-at c = 
+overflow_add-at c =
     omega (
       arith,
       (page-inside c.args.stream.now c.args.packet.now c.loop-page.packet c.loop-page.page c.loop-page.at c.loop-page.size c.args.headers
@@ -36,7 +36,7 @@ pub loop-page-smaller : goal.loop-page-smaller
 loop-page-smaller c = omega arith
 
 pub loop-page-preserved : goal.loop-page-preserved
-loop-page-preserved c = 
+loop-page-preserved c =
     gathers_on c.args.stream.now c.args.packet.now c.loop-page.packet c.loop-page.page c.loop-page.at c.loop-page.size c.args.headers
     c.requires c.loop-page.invariant (omega arith) c.page_at-bytes.result.now c.body_of-body.result.now c.page_at-bytes.ensures c.body_of-body.ensures
     c.copy_at.new.0 c.copy_at.ensures
@@ -45,6 +45,6 @@ pub shape_of-packet : goal.shape_of-packet
 shape_of-packet c = c.loop-page.invariant.filling.size
 
 pub returns : goal.returns
-returns c = 
+returns c =
     let loop = c.loop-page in
     gathers_end c.args.stream.now c.args.packet.now loop.packet loop.page loop.at loop.size c.args.headers c.requires loop.invariant (omega arith)

@@ -11,6 +11,6 @@ pub gather-size-requires : goal.gather-size-requires
 gather-size-requires c = can_gather c.args.stream.now c.args.headers packet_max (omega arith) c.requires
 
 pub returns : goal.returns
-returns c = 
+returns c =
     c.has_replaygain.ensures
     ∙ ap has_replay_gain (c.part_of.ensures ∙ taken_out c.args.stream.now c.args.headers packet_max (omega arith) c.requires _ _ c.gather-size.ensures)

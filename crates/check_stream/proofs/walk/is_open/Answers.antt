@@ -10,6 +10,6 @@ pub returns-then-n-eq0 : goal.returns-then-n-eq0
 returns-then-n-eq0 c = rw c.if-n-eq0.true
 
 pub returns : goal.returns
-returns c = 
+returns c =
     let a = c.args in
     rw (ne_eqb (length a.lacing.now) 0 c.if-n-eq0.false) (not-below (get_or a.lacing.now (length a.lacing.now - 1) 0))

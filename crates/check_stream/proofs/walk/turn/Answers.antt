@@ -16,10 +16,17 @@ use Rattle.reader.specs.Answers.{known_as, told_fed}
 use Rattle.check_stream.proofs.Turning.{inside, never_refused, few-packets, turned}
 use Rattle.check_stream.proofs.walk.turn.Goals as goal
 use Rattle.check_stream.proofs.walk.turn.Lts as lts
+use Rattle.check_stream.proofs.walk.turn.Tie as tie
+
+abbrev After-feed : Type 0
+After-feed = lts.After-feed tie.the-claims tie.handed_pre tie.handed_post
+
+abbrev Start : Type 0
+Start = lts.Start tie.the-claims tie.handed_pre tie.handed_post
 
 -- where the page has been fed
-module _ (c : lts.After-feed) where
-  abbrev begun : lts.Start
+module _ (c : After-feed) where
+  abbrev begun : Start
   begun = c.before.before.before.before.before.before.before.before.before.before.before.before.before
 
   abbrev b : Bytes
@@ -47,18 +54,18 @@ module _ (c : lts.After-feed) where
   refused {why} e = let a = begun.args in never_refused b a.headers a.gains a.walk lent left page begun.requires c.page_at-page.ensures why (fed e)
 
 pub overflow_add-number : goal.overflow_add-number
-overflow_add-number c = 
-    let start = begun c.before.before.before.before.before.before.before.before.before.before.before.before.before.before in
+overflow_add-number c =
+    let start = begun c.before.before.before.before.before.before.before.before.before.before.before.before.before.before.before in
     omega (arith, start.pre.more, start.pre.walked.few, start.good.1.0)
 
 pub overflow_add-at : goal.overflow_add-at
-overflow_add-at c = 
-    let call = c.before.before.before.before.before.before.before.before.before.before.before.before.before.before.before in
+overflow_add-at c =
+    let call = c.before.before.before.before.before.before.before.before.before.before.before.before.before.before.before.before in
     omega (arith, lies_inside call, (begun call).well_formed.1.0)
 
 pub last_of-last-requires : goal.last_of-last-requires
-last_of-last-requires c = 
-    let call = c.before.before.before.before.before.before.before.before.before.before.before.before.before.before.before.before.before.before in
+last_of-last-requires c =
+    let call = c.before.before.before.before.before.before.before.before.before.before.before.before.before.before.before.before.before.before.before in
     let a = (begun call).args in
     few-packets (b call) a.headers a.gains a.walk (lent call) (left call) (page call) (begun call).requires call.page_at-page.ensures
     c.in-Accepted.next c.in-Accepted.counts (octets call) (fed call c.in-Accepted.is) c.lengths-1.given
@@ -76,8 +83,8 @@ pub shape_of-kept-in-Accepted : goal.shape_of-kept-in-Accepted
 shape_of-kept-in-Accepted c = c.kept-1.given
 
 pub returns-in-Accepted : goal.returns-in-Accepted
-returns-in-Accepted c = 
-    let call = c.before.before.before.before.before.before.before.before.before.before.before.before.before.before.before.before.before.before.before.before.before.before in
+returns-in-Accepted c =
+    let call = c.before.before.before.before.before.before.before.before.before.before.before.before.before.before.before.before.before.before.before.before.before.before.before in
     let a = (begun call).args in
     turned (b call) a.headers a.gains a.walk (lent call) (left call) (page call) (begun call).requires call.page_at-page.ensures
     c.in-Accepted.next c.in-Accepted.counts (octets call) (fed call c.in-Accepted.is) c.is_open-pending.result c.last_of-last.result
@@ -86,4 +93,4 @@ returns-in-Accepted c =
     c.found_on-found.ensures
 
 pub returns-in-Refused : goal.returns-in-Refused
-returns-in-Refused c = absurd (refused c.before.before.before.before.before.before.before.before.before.before.before.before c.in-Refused.is)
+returns-in-Refused c = absurd (refused c.before.before.before.before.before.before.before.before.before.before.before.before.before c.in-Refused.is)

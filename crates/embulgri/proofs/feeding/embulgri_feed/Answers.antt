@@ -5,13 +5,13 @@ use Rattle.embulgri.proofs.Readers.{fed, unfed}
 use Rattle.embulgri.proofs.feeding.embulgri_feed.Goals as goal
 
 pub returns-in-Accepted : goal.returns-in-Accepted
-returns-in-Accepted c = 
+returns-in-Accepted c =
     let a = c.args in
     fed a.state.now a.page.now (lent_of a.carry.now a.ends.now a.lengths.now a.kept.now a.frames.now) c.feed_state.ensures
     a.out.now c.in-Accepted.counts c.in-Accepted.is c.page_record.ensures
 
 pub returns-in-Refused : goal.returns-in-Refused
-returns-in-Refused c = 
+returns-in-Refused c =
     let a = c.args in
     unfed a.state.now a.page.now (lent_of a.carry.now a.ends.now a.lengths.now a.kept.now a.frames.now) c.feed_state.ensures
     a.out.now c.in-Refused.why c.in-Refused.is c.number.ensures

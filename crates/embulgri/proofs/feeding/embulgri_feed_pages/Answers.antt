@@ -4,5 +4,5 @@ use Rattle.embulgri.proofs.Readers.{pages-fed}
 use Rattle.embulgri.proofs.feeding.embulgri_feed_pages.Goals as goal
 
 pub returns : goal.returns
-returns c = 
+returns c =
     pages-fed c.feed_state_pages-fed.ensures c.refusal_number.ensures c.why_number.ensures

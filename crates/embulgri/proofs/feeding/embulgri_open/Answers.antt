@@ -5,19 +5,19 @@ use Rattle.embulgri.proofs.Readers.{open_unfit, opened, unopened}
 use Rattle.embulgri.proofs.feeding.embulgri_open.Goals as goal
 
 pub returns-then-not-numbers_fit : goal.returns-then-not-numbers_fit
-returns-then-not-numbers_fit c = 
+returns-then-not-numbers_fit c =
     let a = c.args in
     rw c.number.ensures
     (open_unfit a.fields.now a.mapping.now a.state.now (failed c.numbers_fit.ensures c.if-not-numbers_fit.true))
 
 pub returns-in-Done : goal.returns-in-Done
-returns-in-Done c = 
+returns-in-Done c =
     let a = c.args in
     opened a.fields.now a.mapping.now a.state.now c.head_of.ensures (held c.numbers_fit.ensures c.if-not-numbers_fit.false)
     c.open_state.ensures c.in-Done.is
 
 pub returns-in-Refused : goal.returns-in-Refused
-returns-in-Refused c = 
+returns-in-Refused c =
     let a = c.args in
     unopened a.fields.now a.mapping.now a.state.now c.head_of.ensures (held c.numbers_fit.ensures c.if-not-numbers_fit.false)
     c.open_state.ensures c.in-Refused.why c.in-Refused.is c.number-in-Refused.ensures

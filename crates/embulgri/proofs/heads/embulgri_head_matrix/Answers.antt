@@ -15,10 +15,10 @@ abbrev told : SizeRead → Told (List ℕ)
 told read = retold matrix_numbers (told_size read)
 
 pub returns-in-Size : goal.returns-in-Size
-returns-in-Size c = 
+returns-in-Size c =
     rw c.matrix_numbers.ensures
     (answered (ap (retold matrix_numbers) c.read_size-read.ensures) (ap told c.in-Size.is))
 
 pub returns-in-Refused : goal.returns-in-Refused
-returns-in-Refused c = 
+returns-in-Refused c =
     refused (ap (retold matrix_numbers) c.read_size-read.ensures) (ap told c.in-Refused.is) c.number.ensures

@@ -15,12 +15,12 @@ abbrev told : EntryRead → Told ℕ
 told read = retold (of_z w16) (told_entry read)
 
 pub returns-in-Entry : goal.returns-in-Entry
-returns-in-Entry c = 
+returns-in-Entry c =
     let x = c.in-Entry.x in
     let kept : to_z w16 (of_z w16 x) ≡ x = search rules in
     rw (c.unsigned16.ensures, kept)
     (answered (ap (retold (of_z w16)) c.read_entry-read.ensures) (ap told c.in-Entry.is))
 
 pub returns-in-Refused : goal.returns-in-Refused
-returns-in-Refused c = 
+returns-in-Refused c =
     refused (ap (retold (of_z w16)) c.read_entry-read.ensures) (ap told c.in-Refused.is) c.number.ensures

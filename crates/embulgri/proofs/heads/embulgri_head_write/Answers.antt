@@ -5,19 +5,19 @@ use Rattle.embulgri.proofs.Answers.{numbers_unfit, head-written, head_unwritten}
 use Rattle.embulgri.proofs.heads.embulgri_head_write.Goals as goal
 
 pub returns-then-not-numbers_fit : goal.returns-then-not-numbers_fit
-returns-then-not-numbers_fit c = 
+returns-then-not-numbers_fit c =
     let a = c.args in
     rw c.number.ensures
     (numbers_unfit a.fields.now a.mapping.now a.matrix.now a.out.now a.written.now (failed c.numbers_fit.ensures c.if-not-numbers_fit.true))
 
 pub returns-in-Bytes : goal.returns-in-Bytes
-returns-in-Bytes c = 
+returns-in-Bytes c =
     let a = c.args in
     head-written a.fields.now a.mapping.now a.matrix.now a.out.now a.written.now c.head_of-head.ensures
     (held c.numbers_fit.ensures c.if-not-numbers_fit.false) c.write_head-wrote.ensures c.in-Bytes.is
 
 pub returns-in-Refused : goal.returns-in-Refused
-returns-in-Refused c = 
+returns-in-Refused c =
     let a = c.args in
     head_unwritten a.fields.now a.mapping.now a.matrix.now a.out.now a.written.now c.head_of-head.ensures
     (held c.numbers_fit.ensures c.if-not-numbers_fit.false) c.write_head-wrote.ensures c.in-Refused.is c.number-in-Refused.ensures

@@ -6,7 +6,7 @@ use Rattle.embulgri.proofs.Indexes.{built_as, count_of_lem, refusal-told, count-
 use Rattle.embulgri.proofs.index.embulgri_index_build.Goals as goal
 
 pub returns-in-Built : goal.returns-in-Built
-returns-in-Built c = 
+returns-in-Built c =
     let a = c.args in
     let is = built_as _ _ _ _ c.build.result c.build.ensures (ap told_built c.in-Built.is) in
     record {
@@ -15,7 +15,7 @@ returns-in-Built c =
     }
 
 pub returns-in-Refused : goal.returns-in-Refused
-returns-in-Refused c = 
+returns-in-Refused c =
     let a = c.args in
     let old = a.count.now in
     let is = built_as _ _ _ _ c.build.result c.build.ensures (refusal-told old c.in-Refused.why c.in-Refused.is c.number.ensures) in

@@ -6,9 +6,9 @@ use Rattle.embulgri.proofs.Answers.{wrote, unwritten}
 use Rattle.embulgri.proofs.lines.embulgri_header_lines.Goals as goal
 
 pub returns-in-Bytes : goal.returns-in-Bytes
-returns-in-Bytes c = 
+returns-in-Bytes c =
     wrote c.write_headers-wrote.ensures.told c.write_headers-wrote.ensures.output (ap told_written c.in-Bytes.is)
 
 pub returns-in-Refused : goal.returns-in-Refused
-returns-in-Refused c = 
+returns-in-Refused c =
     unwritten c.write_headers-wrote.ensures.told c.write_headers-wrote.ensures.output (ap told_written c.in-Refused.is) c.number.ensures

@@ -4,5 +4,5 @@ use borrow.Author.Rules.{rules}
 use Rattle.embulgri.proofs.lines.embulgri_list_entries.Goals as goal
 
 pub returns : goal.returns
-returns c = 
+returns c =
     record { listed = c.put_entries-listed.result; lines = c.put_entries-listed.ensures; numbers = refl }

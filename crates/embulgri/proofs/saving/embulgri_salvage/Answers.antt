@@ -5,7 +5,7 @@ use Rattle.embulgri.proofs.Savings.{salvaged_as, written-told, refused-told, cou
 use Rattle.embulgri.proofs.saving.embulgri_salvage.Goals as goal
 
 pub returns-in-Written : goal.returns-in-Written
-returns-in-Written c = 
+returns-in-Written c =
     let is = salvaged_as _ _ _ _ _ _ c.salvage.result c.salvage.ensures (written-told c.in-Written.n c.in-Written.lines c.in-Written.is) in
     record {
       salvages = record { told = is.told; free = tt; output = is.output; whats = is.whats; spots = is.spots; counts = is.counts };
@@ -13,7 +13,7 @@ returns-in-Written c =
     }
 
 pub returns-in-Refused : goal.returns-in-Refused
-returns-in-Refused c = 
+returns-in-Refused c =
     let old = c.args.counts.now in
     let why = c.in-Refused.why in
     let is = salvaged_as _ _ _ _ _ _ c.salvage.result c.salvage.ensures (refused-told old why c.in-Refused.is c.number.ensures) in

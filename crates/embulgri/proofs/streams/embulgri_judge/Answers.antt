@@ -5,15 +5,15 @@ use Rattle.embulgri.proofs.Judging.{judged-whole, judged_incomplete, judged-refu
 use Rattle.embulgri.proofs.streams.embulgri_judge.Goals as goal
 
 pub returns-then-number : goal.returns-then-number
-returns-then-number c = 
+returns-then-number c =
     judged_incomplete c.judge.ensures c.args.page.now c.in-Refused.why c.in-Refused.at c.in-Refused.is
     c.number-number.ensures (agrees c.number-number.ensures c.number.ensures c.if-number.true)
 
 pub returns-in-Whole : goal.returns-in-Whole
-returns-in-Whole c = 
+returns-in-Whole c =
     judged-whole c.judge.ensures c.args.page.now c.in-Whole.field-0 c.in-Whole.field-1 c.in-Whole.is
 
 pub returns-else-number : goal.returns-else-number
-returns-else-number c = 
+returns-else-number c =
     judged-refused c.judge.ensures c.args.page.now c.in-Refused.why c.in-Refused.at c.in-Refused.is
     c.number-number.ensures (differs c.number-number.ensures c.number.ensures c.if-number.false)

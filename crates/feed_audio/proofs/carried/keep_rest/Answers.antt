@@ -10,7 +10,7 @@ use Rattle.feed_audio.proofs.carried.keep_rest.Goals as goal
 
 pub returns-then-rest-gt0 : goal.returns-then-rest-gt0
 unfolding rest_of
-returns-then-rest-gt0 c = 
+returns-then-rest-gt0 c =
     let a = c.args in
     let at = length a.body.now - a.rest in
     let all = take_all (length a.body.now - at) (drop at a.body.now) (simp length-drop (omega arith)) in

@@ -8,7 +8,7 @@ use Rattle.stream.specs.declared.Phase.TheVariants.{Audio, Ended}
 use Rattle.feed_audio.proofs.carried.next_core.Goals as goal
 
 pub returns : goal.returns
-returns c = 
+returns c =
     let a = c.args in
     let ph : c.if-is_last_page.phase ≡ pick (is_last_page a.h.flags) Ended Audio =
     ⊎_elim

@@ -5,7 +5,7 @@ use Rattle.stream.specs.declared.Pending.TheVariants.{Nothing}
 use Rattle.feed_audio.proofs.carried.still_pending.Goals as goal
 
 pub returns-in-Nothing : goal.returns-in-Nothing
-returns-in-Nothing c = 
+returns-in-Nothing c =
     let q : c.args.pending ≡ Nothing = c.in-Nothing.is in
     rw q c.begun.ensures
 

@@ -12,10 +12,20 @@ use Rattle.feed_audio.specs.Alike.{single}
 use Rattle.feed_audio.proofs.Repeated.{times_as, single_packs, most-samples, measures-alike, room-alike, filled_alike}
 use Rattle.feed_audio.proofs.lists.list_alike.Goals as goal
 use Rattle.feed_audio.proofs.lists.list_alike.Lts as lts
+use Rattle.feed_audio.proofs.lists.list_alike.Tie as tie
+
+abbrev After-judge_page : Type 0
+After-judge_page = lts.After-judge_page tie.the-claims tie.handed_pre tie.handed_post
+
+abbrev Start : Type 0
+Start = lts.Start tie.the-claims tie.handed_pre tie.handed_post
+
+abbrev In-Packets-2 : Type 0
+In-Packets-2 = lts.After-n tie.the-claims tie.handed_pre tie.handed_post
 
 -- the page is judged by the samples of these packets
-module _ (c : lts.After-judge_page) where
-  abbrev entry : lts.Start
+module _ (c : After-judge_page) where
+  abbrev entry : Start
   entry = c.before.before.before.before.before.before
 
   times : let a = entry.args in
@@ -25,8 +35,8 @@ module _ (c : lts.After-judge_page) where
       c.judge_page.ensures _ _ (measures-alike a.count a.toc entry.requires.few (ap (λ (d : ℕ). a.count * d) c.frame_samples-samples.ensures))
 
 -- they lie where they were judged to lie
-module _ (c : lts.In-Packets-2) where
-  abbrev judged : lts.After-judge_page
+module _ (c : In-Packets-2) where
+  abbrev judged : After-judge_page
   judged = c.before.before
 
   placed : let a = (entry judged).args in
@@ -35,26 +45,26 @@ module _ (c : lts.In-Packets-2) where
   placed = times_as c.in-Packets.is (times judged)
 
 pub overflow_mul-d : goal.overflow_mul-d
-overflow_mul-d c = 
+overflow_mul-d c =
     record { fits = rw c.frame_samples-samples.ensures (lt_of_le_of_lt (most-samples c.args.count c.args.toc c.requires.0) (lit< tt)) }
 
 pub packed-m-requires : goal.packed-m-requires
 packed-m-requires c = rw c.frame_samples-samples.ensures (single_packs _)
 
 pub list_same-left-requires : goal.list_same-left-requires
-list_same-left-requires c = 
-    let got = c.before.before.before.before.before.before.before in
+list_same-left-requires c =
+    let got = c.before.before.before.before.before.before.before.before in
     let st = entry (judged got) in
     rw (c.packed-m.ensures, (judged got).frame_samples-samples.ensures)
     (room-alike st.args.count st.args.toc st.pre.0 (placed got) st.pre.1.0)
 
 pub returns-in-Refused : goal.returns-in-Refused
-returns-in-Refused c = 
-    record { packed = _; times = times_as c.in-Refused.is (times c.before.before.before); stays = refl }
+returns-in-Refused c =
+    record { packed = _; times = times_as c.in-Refused.is (times c.before.before.before.before); stays = refl }
 
 pub returns-in-Packets : goal.returns-in-Packets
-returns-in-Packets c = 
-    let got = c.before.before in
+returns-in-Packets c =
+    let got = c.before.before.before in
     let st = entry (judged got) in
     filled_alike st.args.count st.args.toc st.pre.0 (placed got)
     (rw (c.packed-m.ensures, (judged got).frame_samples-samples.ensures, c.is_last_page-last.ensures) at c.list_same-left.ensures)

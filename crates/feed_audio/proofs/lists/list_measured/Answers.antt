@@ -6,7 +6,7 @@ use Rattle.feed_audio.specs.declared.times.Timed.TheVariants.{Packets, Refused}
 use Rattle.feed_audio.proofs.lists.list_measured.Goals as goal
 
 pub list_packets-left-requires : goal.list_packets-left-requires
-list_packets-left-requires c = 
+list_packets-left-requires c =
     let room = c.requires.1.0 in
     let q : c.time_page.result ≡ Packets c.in-Packets.count c.in-Packets.d c.in-Packets.place = c.in-Packets.is in
     let m = rw q at c.time_page.ensures in
@@ -21,12 +21,12 @@ list_packets-left-requires c =
     }
 
 pub returns-in-Refused : goal.returns-in-Refused
-returns-in-Refused c = 
+returns-in-Refused c =
     let q : c.time_page.result ≡ Refused c.in-Refused.why = c.in-Refused.is in
     record { packed = _; times = rw q at c.time_page.ensures; stays = refl }
 
 pub returns-in-Packets : goal.returns-in-Packets
-returns-in-Packets c = 
+returns-in-Packets c =
     let q : c.time_page.result ≡ Packets c.in-Packets.count c.in-Packets.d c.in-Packets.place = c.in-Packets.is in
     record {
       packed = _;

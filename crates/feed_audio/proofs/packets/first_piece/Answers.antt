@@ -24,7 +24,7 @@ pub overflow_add-i : goal.overflow_add-i
 overflow_add-i c = omega arith
 
 pub returns-then-v-lt255 : goal.returns-then-v-lt255
-returns-then-v-lt255 c = 
+returns-then-v-lt255 c =
     let at = c.loop-i in
     let l = c.args.lacing.now in
     let v = c.wide-v.result in
@@ -34,13 +34,13 @@ pub loop-i-smaller : goal.loop-i-smaller
 loop-i-smaller c = omega arith
 
 pub loop-i-preserved : goal.loop-i-preserved
-loop-i-preserved c = 
+loop-i-preserved c =
     let at = c.loop-i in
     let l = c.args.lacing.now in
     let v = c.wide-v.result in
     (rw (at.invariant.0, next l at.i v (omega arith) c.wide-v.ensures.same) (piece-goes_on (drop (at.i + 1) l) at.i at.bytes v c.if-v-lt255.false), omega arith, omega arith)
 
 pub returns : goal.returns
-returns c = 
+returns c =
     let l = c.args.lacing.now in
     rw (c.loop-i.invariant.0, drop_of_length-le l c.loop-i-test.false) (sym (piece_open c.loop-i.i c.loop-i.bytes))

@@ -41,14 +41,14 @@ pub read_packet_quick-requires : goal.read_packet_quick-requires
 read_packet_quick-requires c = tt
 
 pub returns-in-Refused : goal.returns-in-Refused
-returns-in-Refused c = 
+returns-in-Refused c =
     let at = c.loop-i in
     refused at.invariant c.wide-v.ensures.same (omega arith) c.if-v-lt255.true _
     (read_as c.read_packet_quick.ensures c.in-Refused.is)
 
 -- the measure that was read fits one number
 pub packed-requires : goal.packed-requires
-packed-requires c = 
+packed-requires c =
     packable _ _ _ (read_as c.read_packet_quick.ensures c.in-Legal.is)
 
 pub offset_bounds-measures-count : goal.offset_bounds-measures-count
@@ -61,7 +61,7 @@ pub overflow_add-count : goal.overflow_add-count
 overflow_add-count c = omega arith
 
 pub overflow_add-sum : goal.overflow_add-sum
-overflow_add-sum c = 
+overflow_add-sum c =
     let fit = packable _ _ _ (read_as c.read_packet_quick.ensures c.in-Legal.is) in
     omega (arith, fit.samples)
 
@@ -69,7 +69,7 @@ pub loop-i-smaller-then-v-lt255 : goal.loop-i-smaller-then-v-lt255
 loop-i-smaller-then-v-lt255 c = omega arith
 
 pub loop-i-preserved-then-v-lt255 : goal.loop-i-preserved-then-v-lt255
-loop-i-preserved-then-v-lt255 c = 
+loop-i-preserved-then-v-lt255 c =
     let at = c.loop-i in
     rw c.packed.ensures
     (ends at.invariant c.wide-v.ensures.same (omega arith) c.if-v-lt255.true
@@ -82,6 +82,6 @@ pub loop-i-preserved : goal.loop-i-preserved
 loop-i-preserved c = goes_on c.loop-i.invariant c.wide-v.ensures.same (omega arith) c.if-v-lt255.false
 
 pub returns : goal.returns
-returns c = 
+returns c =
     let p = c.requires in
     all-measured c.loop-i.invariant c.loop-i-test.false (omega arith) p.one p.few

@@ -13,44 +13,51 @@ use Rattle.feed_audio.specs.Code.{measures_in, Packable}
 use Rattle.feed_audio.proofs.Measuring.{read_as, packable, none_yet, first-sums, first-refused, first-measured}
 use Rattle.feed_audio.proofs.packets.measure_page.Goals as goal
 use Rattle.feed_audio.proofs.packets.measure_page.Lts as lts
+use Rattle.feed_audio.proofs.packets.measure_page.Tie as tie
+
+abbrev In-Held-2 : Type 0
+In-Held-2 = lts.After-pending tie.the-claims tie.handed_pre tie.handed_post
+
+abbrev In-Legal-2 : Type 0
+In-Legal-2 = lts.After-contents tie.the-claims tie.handed_pre tie.handed_post
 
 -- the held packet lies in the carry buffer
-held : (c : lts.In-Held-2) → c.in-Held.n + c.args.bytes ≤ length c.args.carry.now
+held : (c : In-Held-2) → c.in-Held.n + c.args.bytes ≤ length c.args.carry.now
 held c =
     let q : c.args.pending ≡ Held c.in-Held.n = c.in-Held.is in
     rw q at c.requires.held
 
 -- the held packet's measure, which fits one number
-abbrev measured : lts.In-Legal-2 → Measure
+abbrev measured : In-Legal-2 → Measure
 measured c = c.contents.given.0.0.measure
 
-fits : (c : lts.In-Legal-2) → Packable (measured c)
+fits : (c : In-Legal-2) → Packable (measured c)
 fits c = packable _ _ _ (read_as c.read_packet.ensures c.in-Legal.is)
 
 pub measure-requires : goal.measure-requires
 unfolding total samples_of measures_in
-measure-requires c = 
+measure-requires c =
     let fit = c.requires in
     record { few = fit.few; within = omega arith; bytes = omega arith; room = omega arith; one = omega arith; adds = refl; small = omega arith }
 
 pub measure-requires-in-Dropped : goal.measure-requires-in-Dropped
 unfolding total samples_of measures_in
-measure-requires-in-Dropped c = 
+measure-requires-in-Dropped c =
     let fit = c.requires in
     record { few = fit.few; within = omega arith; bytes = omega arith; room = omega arith; one = omega arith; adds = refl; small = omega arith }
 
 pub overflow_add-whole : goal.overflow_add-whole
-overflow_add-whole c = omega (arith, held c.before)
+overflow_add-whole c = omega (arith, held c.before.before)
 
 pub slice_bounds-read_packet-end : goal.slice_bounds-read_packet-end
-slice_bounds-read_packet-end c = sym (length-take-le _ _ (held c.before.before))
+slice_bounds-read_packet-end c = sym (length-take-le _ _ (held c.before.before.before))
 
 pub packed-requires : goal.packed-requires
-packed-requires c = fits c.before.before
+packed-requires c = fits c.before.before.before
 
 pub measure-requires-in-Legal : goal.measure-requires-in-Legal
-measure-requires-in-Legal c = 
-    let got = c.before.before.before.before in
+measure-requires-in-Legal c =
+    let got = c.before.before.before.before.before in
     let fit = fits got in
     let size : 0 < length got.args.measures.now = omega arith in
     record {
@@ -65,18 +72,18 @@ measure-requires-in-Legal c =
 
 pub returns-in-Nothing : goal.returns-in-Nothing
 unfolding measures_in
-returns-in-Nothing c = 
+returns-in-Nothing c =
     let q : c.args.pending ≡ Nothing = c.in-Nothing.is in
     rw q (none_yet c.measure.ensures)
 
 pub returns-in-Dropped : goal.returns-in-Dropped
 unfolding measures_in
-returns-in-Dropped c = 
+returns-in-Dropped c =
     let q : c.args.pending ≡ Dropped = c.in-Dropped.is in
     rw q (none_yet c.measure-in-Dropped.ensures)
 
 pub returns-in-Refused : goal.returns-in-Refused
-returns-in-Refused c = 
+returns-in-Refused c =
     let q : c.args.pending ≡ Held c.in-Held.n = c.in-Held.is in
     rw q (first-refused _ _ _ _ (read_as c.read_packet.ensures c.in-Refused.is))
 
@@ -84,7 +91,7 @@ pub shape_of-measures-in-Legal : goal.shape_of-measures-in-Legal
 shape_of-measures-in-Legal c = c.measures-in-Legal-1.given ∙ simp length-set
 
 pub returns-in-Legal : goal.returns-in-Legal
-returns-in-Legal c = 
+returns-in-Legal c =
     let q : c.args.pending ≡ Held c.in-Held.n = c.in-Held.is in
     let size : 0 < length c.args.measures.now = omega (arith, c.requires.room) in
     rw q

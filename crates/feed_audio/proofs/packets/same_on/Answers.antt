@@ -7,7 +7,7 @@ pub returns-then-streams-ne1 : goal.returns-then-streams-ne1
 returns-then-streams-ne1 c = tt
 
 pub returns-in-Nothing : goal.returns-in-Nothing
-returns-in-Nothing c = 
+returns-in-Nothing c =
     on_page_lem c.same_packets.result _ _ _ _ c.in-Nothing.is c.if-streams-ne1.false c.same_packets.ensures
 
 pub returns-in-Dropped : goal.returns-in-Dropped

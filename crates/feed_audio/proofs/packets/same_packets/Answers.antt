@@ -48,7 +48,7 @@ pub loop-i-smaller-then-v-lt255 : goal.loop-i-smaller-then-v-lt255
 loop-i-smaller-then-v-lt255 c = omega arith
 
 pub loop-i-preserved-then-v-lt255 : goal.loop-i-preserved-then-v-lt255
-loop-i-preserved-then-v-lt255 c = 
+loop-i-preserved-then-v-lt255 c =
     alike-ends c.loop-i.invariant c.wide-v.ensures.same (omega arith) c.if-v-lt255.true
     (held c.is_single_of.ensures c.if-not-is_single_of.false)
 

@@ -6,10 +6,9 @@ use borrow.Author.Rules.{rules}
 use Rattle.granule.specs.Samples.{skipped_of}
 use Rattle.granule.proofs.Counting.{samples_shared}
 use Rattle.feed_audio.proofs.times.counts_of.Goals as goal
-use Rattle.feed_audio.proofs.times.counts_of.Lts as lts
 
 -- kept, skipped and trimmed make all
-shared : (c : lts.After-kept-kept)
+shared : (c : goal.After-kept-kept)
     → c.kept-kept.result + skipped_of c.args.skip c.args.last c.args.g c.args.place.from c.args.d + c.args.place.trimmed ≡ c.args.d
 shared c =
     let a = c.args in
@@ -19,11 +18,11 @@ pub overflow_sub-result : goal.overflow_sub-result
 overflow_sub-result c = omega (arith, shared c)
 
 pub overflow_sub-result-2 : goal.overflow_sub-result-2
-overflow_sub-result-2 c = omega (arith, shared c.before)
+overflow_sub-result-2 c = omega (arith, shared c.before.before)
 
 pub returns : goal.returns
-returns c = 
+returns c =
     let a = c.args in
-    let all = shared c.before in
+    let all = shared c.before.before in
     let e : a.d - c.kept-kept.result - a.place.trimmed ≡ skipped_of a.skip a.last a.g a.place.from a.d = omega arith in
     rw (e, c.kept-kept.ensures, c.requires)

@@ -11,10 +11,14 @@ use Rattle.feed_audio.specs.Code.{measures_in}
 use Rattle.feed_audio.proofs.Listing.{Listing, begins, fits_next, placeable, lists, all_listed}
 use Rattle.feed_audio.proofs.times.list_packets.Goals as goal
 use Rattle.feed_audio.proofs.times.list_packets.Lts as lts
+use Rattle.feed_audio.proofs.times.list_packets.Tie as tie
+
+abbrev Start : Type 0
+Start = lts.Start tie.the-claims tie.handed_pre tie.handed_post goal.the-invariant-loop-i goal.the-decreases-loop-i
 
 -- a turn
-module _ (c : lts.In-loop-i invariant_loop decreases_loop) where
-  abbrev entry : lts.Start invariant_loop decreases_loop
+module _ (c : goal.In-loop-i) where
+  abbrev entry : Start
   entry = c.before.before.before.before.before.before.before
 
   abbrev packed : List ℕ
@@ -24,13 +28,13 @@ module _ (c : lts.In-loop-i invariant_loop decreases_loop) where
   measure = sym (get_or-take entry.args.n packed c.loop-i.i 0 c.loop-i-test.true)
 
 pub loop-i-init : goal.loop-i-init
-loop-i-init c = 
+loop-i-init c =
     let packed = c.args.measures.now in
     begins _ _ _ _ c.args.n (take c.args.n packed) _ _ _ _ (length-take-le c.args.n packed c.requires.measures) c.requires.fits
 
 pub list_one-requires : goal.list_one-requires
-list_one-requires c = 
-    let on = c.before.before.before.before.before in
+list_one-requires c =
+    let on = c.before.before.before.before.before.before in
     let room = (entry on).requires in
     placeable on.loop-i.invariant on.loop-i-test.true (measure on) room.ends room.lengths room.kept room.frames
 
@@ -38,8 +42,8 @@ pub wide-at-requires : goal.wide-at-requires
 wide-at-requires c = tt
 
 pub overflow_add-at : goal.overflow_add-at
-overflow_add-at c = 
-    let on = c.before.before.before.before.before.before.before.before.before.before.before.before.before.before.before in
+overflow_add-at c =
+    let on = c.before.before.before.before.before.before.before.before.before.before.before.before.before.before.before.before in
     omega (arith, fits_next on.loop-i.invariant on.loop-i-test.true (measure on), c.wide-at.ensures)
 
 pub skip_after-left-requires : goal.skip_after-left-requires
@@ -52,8 +56,8 @@ pub loop-i-smaller : goal.loop-i-smaller
 loop-i-smaller c = omega arith
 
 pub loop-i-preserved : goal.loop-i-preserved
-loop-i-preserved c = 
-    let on = c.before.before.before.before.before.before in
+loop-i-preserved c =
+    let on = c.before.before.before.before.before.before.before in
     let room = (entry on).requires in
     let put = c.list_one.ensures in
     rw (c.skip_after-left.ensures, c.wide-at.ensures, put.0, put.1.0, put.1.1.0, put.1.1.1)

@@ -6,12 +6,12 @@ use Rattle.feed_audio.proofs.Timing.{unmeasured}
 use Rattle.feed_audio.proofs.times.time_page.Goals as goal
 
 pub returns-in-Refused : goal.returns-in-Refused
-returns-in-Refused c = 
+returns-in-Refused c =
     let a = c.args in
     let q : c.measure_page.result ≡ Refused c.in-Refused.why = c.in-Refused.is in
     unmeasured a.core a.h (rw (q, c.stream_count-streams.ensures) at c.measure_page.ensures)
 
 pub returns-in-All : goal.returns-in-All
-returns-in-All c = 
+returns-in-All c =
     let q : c.measure_page.result ≡ All c.in-All.count c.in-All.d = c.in-All.is in
     c.judge_page.ensures _ _ (rw (q, c.stream_count-streams.ensures) at c.measure_page.ensures)

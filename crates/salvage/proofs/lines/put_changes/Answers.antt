@@ -5,33 +5,52 @@ use Rattle.salvage.specs.Columns.{line_if}
 use Rattle.salvage.proofs.Columns.{column_five}
 use Rattle.salvage.proofs.lines.put_changes.Goals as goal
 use Rattle.salvage.proofs.lines.put_changes.Lts as lts
+use Rattle.salvage.proofs.lines.put_changes.Tie as tie
+
+abbrev After-put_line : Type 0
+After-put_line = lts.After-put_line5 tie.the-claims tie.handed_pre tie.handed_post
+
+abbrev After-put_line-at-4 : Type 0
+After-put_line-at-4 = lts.After-put_line4 tie.the-claims tie.handed_pre tie.handed_post
+
+abbrev After-put_line-at-3 : Type 0
+After-put_line-at-3 = lts.After-put_line3 tie.the-claims tie.handed_pre tie.handed_post
+
+abbrev After-put_line-at-2 : Type 0
+After-put_line-at-2 = lts.After-put_line2 tie.the-claims tie.handed_pre tie.handed_post
+
+abbrev After-put_line-at : Type 0
+After-put_line-at = lts.After-put_line tie.the-claims tie.handed_pre tie.handed_post
+
+abbrev Start : Type 0
+Start = lts.Start tie.the-claims tie.handed_pre tie.handed_post
 
 -- the calls, from the last one back
-abbrev fourth : lts.After-put_line → lts.After-put_line-at-4
+abbrev fourth : After-put_line → After-put_line-at-4
 fourth c = c.before.before.before.before.before.before.before.before.before.before
 
-abbrev third : lts.After-put_line-at-4 → lts.After-put_line-at-3
+abbrev third : After-put_line-at-4 → After-put_line-at-3
 third c = c.before.before.before.before.before.before.before.before.before.before
 
-abbrev second : lts.After-put_line-at-3 → lts.After-put_line-at-2
+abbrev second : After-put_line-at-3 → After-put_line-at-2
 second c = c.before.before.before.before.before.before.before.before.before.before
 
-abbrev first : lts.After-put_line-at-2 → lts.After-put_line-at
+abbrev first : After-put_line-at-2 → After-put_line-at
 first c = c.before.before.before.before.before.before.before.before.before.before
 
-abbrev start : lts.After-put_line-at → lts.Start
+abbrev start : After-put_line-at → Start
 start c = c.before.before.before.before.before.before.before
 
 pub put_line-at-requires-4 : goal.put_line-at-requires-4
-put_line-at-requires-4 c = 
-    let z = c.before.before.before.before.before.before.before.before.before in
+put_line-at-requires-4 c =
+    let z = c.before.before.before.before.before.before.before.before.before.before in
     let y = second z in
     let x = first y in
     omega (arith, x.put-line.ensures.most, y.put-line2.ensures.most, z.put_line-at-3.ensures.most, (start x).requires)
 
 pub put_line-requires : goal.put_line-requires
-put_line-requires c = 
-    let w = c.before.before.before.before.before.before.before.before.before in
+put_line-requires c =
+    let w = c.before.before.before.before.before.before.before.before.before.before in
     let z = third w in
     let y = second z in
     let x = first y in
@@ -47,8 +66,8 @@ pub shape_of-sizes : goal.shape_of-sizes
 shape_of-sizes c = c.sizes-5-1.given ∙ c.sizes-4-1.given ∙ c.sizes-3-1.given ∙ c.sizes-2-1.given ∙ c.sizes-1.given
 
 pub returns : goal.returns
-returns c = 
-    let v = c.before.before.before.before.before.before in
+returns c =
+    let v = c.before.before.before.before.before.before.before in
     let w = fourth v in
     let z = third w in
     let y = second z in

@@ -5,6 +5,6 @@ use Rattle.salvage.proofs.lines.put_end.Goals as goal
 
 pub returns : goal.returns
 unfolding skipped
-returns c = 
+returns c =
     let s = c.put_line.ensures.stored in
     rw (← c.gap.ensures) (record { whats = s.whats; spots = s.spots; counts = s.counts })

@@ -3,7 +3,7 @@ use Rattle.std.proofs.Common.{refl, arith, rules}
 use Rattle.salvage.proofs.lines.put_line.Goals as goal
 
 pub returns-then-told : goal.returns-then-told
-returns-then-told c = 
+returns-then-told c =
     rw c.if-told.true
     (record {
       next = refl;

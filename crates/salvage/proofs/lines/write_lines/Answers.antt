@@ -7,19 +7,23 @@ use Rattle.salvage.proofs.Steps.{can_walk, lines-here, lines-over, goes, nearer,
 use Rattle.salvage.proofs.Filled.{Column, column_begin, column_on, column_end}
 use Rattle.salvage.proofs.lines.write_lines.Goals as goal
 use Rattle.salvage.proofs.lines.write_lines.Lts as lts
+use Rattle.salvage.proofs.lines.write_lines.Tie as tie
 
-fits : (c : lts.Start invariant_loop decreases_loop) → length c.args.buffer.now < 2 ^ 64
+abbrev Start : Type 0
+Start = lts.Start tie.the-claims tie.handed_pre tie.handed_post goal.the-invariant-loop-next goal.the-decreases-loop-next
+
+fits : (c : Start) → length c.args.buffer.now < 2 ^ 64
 fits c = omega arith
 
-long : (c : lts.Start invariant_loop decreases_loop) → length c.args.list.now < 2 ^ 64
+long : (c : Start) → length c.args.list.now < 2 ^ 64
 long c = omega arith
 
 pub loop-next-init : goal.loop-next-init
 loop-next-init c = rw c.begin-walk.ensures (walk_begins _ _, column_begin what_in _ _ _, column_begin place_in _ _ _, column_begin size_in _ _ _)
 
 pub put_end-requires : goal.put_end-requires
-put_end-requires c = 
-    let start = c.before.before.before.before.before.before.before in
+put_end-requires c =
+    let start = c.before.before.before.before.before.before.before.before in
     lines-over _ _ (fits start) start.requires c.loop-next.invariant.0
 
 pub shape_of-what-then-next-list : goal.shape_of-what-then-next-list
@@ -32,7 +36,7 @@ pub shape_of-sizes-then-next-list : goal.shape_of-sizes-then-next-list
 shape_of-sizes-then-next-list c = c.sizes-1.given ∙ c.loop-next.invariant.3.long
 
 pub returns-then-next-list : goal.returns-then-next-list
-returns-then-next-list c = 
+returns-then-next-list c =
     let over = walk_over c.loop-next.invariant.0 c.listed_at-next.ensures c.if-next-list.true in
     let s = c.put_end.ensures in
     record {
@@ -42,25 +46,25 @@ returns-then-next-list c =
     }
 
 pub put_changes-requires : goal.put_changes-requires
-put_changes-requires c = 
-    let start = c.before.before.before.before.before.before.before in
+put_changes-requires c =
+    let start = c.before.before.before.before.before.before.before.before in
     lines-here (fits start) (long start) start.requires c.loop-next.invariant.0 c.listed_at-next.ensures (omega (arith, c.if-next-list.false))
 
 pub walk_on-walk-requires : goal.walk_on-walk-requires
-walk_on-walk-requires c = 
-    let start = c.before.before.before.before.before.before.before in
+walk_on-walk-requires c =
+    let start = c.before.before.before.before.before.before.before.before in
     rw c.page_at-page.ensures
     (can_walk (fits start) (long start) start.requires c.loop-next.invariant.0 c.listed_at-next.ensures (omega (arith, c.if-next-list.false)))
 
 pub loop-next-smaller : goal.loop-next-smaller
-loop-next-smaller c = 
-    let start = c.before.before.before.before.before.before.before in
+loop-next-smaller c =
+    let start = c.before.before.before.before.before.before.before.before in
     nearer (fits start) (long start) start.requires c.loop-next.invariant.0 c.listed_at-next.ensures (omega (arith, c.if-next-list.false)) c.changes_of-c.result
     (rw c.page_at-page.ensures at c.walk_on-walk.ensures)
 
 pub loop-next-preserved : goal.loop-next-preserved
-loop-next-preserved c = 
-    let start = c.before.before.before.before.before.before.before in
+loop-next-preserved c =
+    let start = c.before.before.before.before.before.before.before.before in
     let inv = c.loop-next.invariant in
     let is = c.listed_at-next.ensures in
     let inside : c.listed_at-next.result.index < length start.args.list.now = omega (arith, c.if-next-list.false) in

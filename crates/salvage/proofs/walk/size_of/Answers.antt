@@ -4,19 +4,23 @@ use Rattle.salvage_page.specs.Statements.{kept_size}
 use Rattle.salvage_page.proofs.Saving.{no_longer}
 use Rattle.salvage.proofs.walk.size_of.Goals as goal
 use Rattle.salvage.proofs.walk.size_of.Lts as lts
+use Rattle.salvage.proofs.walk.size_of.Tie as tie
+
+abbrev Start : Type 0
+Start = lts.Start tie.the-claims tie.handed_pre tie.handed_post
 
 -- the page fits
-fits : (c : lts.Start) → kept_size c.args.form c.args.page.now ≤ length c.args.page.now
+fits : (c : Start) → kept_size c.args.form c.args.page.now ≤ length c.args.page.now
 fits c = no_longer c.args.form c.args.page.now c.requires
 
 pub overflow_add-result : goal.overflow_add-result
-overflow_add-result c = 
-    let start = c.before.before in
+overflow_add-result c =
+    let start = c.before.before.before in
     omega (arith, ap length c.lacing_kept.ensures, fits start)
 
 pub overflow_add-result-2 : goal.overflow_add-result-2
-overflow_add-result-2 c = 
-    let start = c.before.before in
+overflow_add-result-2 c =
+    let start = c.before.before.before in
     omega (arith, ap length c.lacing_kept.ensures, ap length c.body_kept.ensures, fits start)
 
 pub returns : goal.returns

@@ -14,15 +14,15 @@ pub overflow_add-result-2 : goal.overflow_add-result-2
 overflow_add-result-2 c = omega (arith, c.requires.end)
 
 pub overflow_add-result-3 : goal.overflow_add-result-3
-overflow_add-result-3 c = 
+overflow_add-result-3 c =
     omega (arith, c.size_of-size.ensures, c.requires.bytes)
 
 pub overflow_add-result-4 : goal.overflow_add-result-4
-overflow_add-result-4 c = 
+overflow_add-result-4 c =
     let d = c.args.c in
     omega (arith, c.lines_of.ensures, c.requires.lines, line-most d.skip, line-most d.renumbered, line-most d.cleared, line-most d.lead, line-most d.trail)
 
 pub returns : goal.returns
-returns c = 
+returns c =
     let a = c.args in
     rw (c.size_of-size.ensures, c.next_prior.ensures, c.wrapping_add_u32.ensures, c.lines_of.ensures, add-one a.next.index)

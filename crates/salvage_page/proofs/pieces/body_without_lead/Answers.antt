@@ -6,9 +6,9 @@ use Rattle.salvage_page.proofs.Kept.{rest_of}
 use Rattle.salvage_page.proofs.pieces.body_without_lead.Goals as goal
 
 pub returns-then-not-lead : goal.returns-then-not-lead
-returns-then-not-lead c = rw (not-true c.args.lead c.if-not-lead.true)
+returns-then-not-lead c = rw c.if-not-lead.true
 
 pub returns : goal.returns
-returns c = 
+returns c =
     let a = c.args in
-    rw (not-false a.lead c.if-not-lead.false, c.part_of.ensures, c.lead_bytes.ensures.bytes) (rest_of (first_bytes a.lacing.now) a.body.now)
+    rw (c.if-not-lead.false, c.part_of.ensures, c.lead_bytes.ensures.bytes) (rest_of (first_bytes a.lacing.now) a.body.now)

@@ -7,6 +7,6 @@ pub slice_bounds-sum_of-end : goal.slice_bounds-sum_of-end
 slice_bounds-sum_of-end c = front_length _ _ c.kept_values-n.ensures.inside
 
 pub returns : goal.returns
-returns c = 
+returns c =
     let sum = c.sum_of.ensures.sum ∙ kept-sum c.args.lacing.now _ c.requires c.kept_values-n.ensures in
     sum

@@ -22,7 +22,7 @@ pub bounds-lacing-n : goal.bounds-lacing-n
 bounds-lacing-n c = omega arith
 
 pub returns-then-lacing-n-lt255 : goal.returns-then-lacing-n-lt255
-returns-then-lacing-n-lt255 c = 
+returns-then-lacing-n-lt255 c =
     let at = c.loop-n in
     let l : Bytes = c.args.lacing.now in
     record { values = up_to-here l at.n (omega arith) at.invariant.1 c.if-lacing-n-lt255.true at.invariant.0; inside = at.invariant.1 }
@@ -34,13 +34,13 @@ pub loop-n-smaller : goal.loop-n-smaller
 loop-n-smaller c = omega arith
 
 pub loop-n-preserved : goal.loop-n-preserved
-loop-n-preserved c = 
+loop-n-preserved c =
     let at = c.loop-n in
     let l : Bytes = c.args.lacing.now in
     (ends-before l at.n (omega arith) at.invariant.1 c.if-lacing-n-lt255.false at.invariant.0, omega arith)
 
 pub returns : goal.returns
-returns c = 
+returns c =
     let at = c.loop-n in
     let l : Bytes = c.args.lacing.now in
     record { values = none l at.n c.loop-n-test.false at.invariant.0; inside = at.invariant.1 }

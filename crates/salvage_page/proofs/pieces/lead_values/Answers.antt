@@ -15,7 +15,7 @@ pub overflow_add-result : goal.overflow_add-result
 overflow_add-result c = omega arith
 
 pub returns-then-lacing-i-lt255 : goal.returns-then-lacing-i-lt255
-returns-then-lacing-i-lt255 c = 
+returns-then-lacing-i-lt255 c =
     let at = c.loop-i in
     let l : Bytes = c.args.lacing.now in
     let i : ℕ = at.i in
@@ -31,7 +31,7 @@ pub loop-i-smaller : goal.loop-i-smaller
 loop-i-smaller c = omega arith
 
 pub loop-i-preserved : goal.loop-i-preserved
-loop-i-preserved c = 
+loop-i-preserved c =
     let at = c.loop-i in
     let l : Bytes = c.args.lacing.now in
     let i : ℕ = at.i in
@@ -39,7 +39,7 @@ loop-i-preserved c =
 
 pub returns : goal.returns
 unfolding after_first
-returns c = 
+returns c =
     let at = c.loop-i in
     let l : Bytes = c.args.lacing.now in
     let over = drop_of_length-le l c.loop-i-test.false in

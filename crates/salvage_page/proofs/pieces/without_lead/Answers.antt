@@ -5,9 +5,9 @@ use Rattle.salvage_page.proofs.Sums.{rest-whole}
 use Rattle.salvage_page.proofs.pieces.without_lead.Goals as goal
 
 pub returns-then-not-lead : goal.returns-then-not-lead
-returns-then-not-lead c = rw (not-true c.args.lead c.if-not-lead.true)
+returns-then-not-lead c = rw c.if-not-lead.true
 
 pub returns : goal.returns
-returns c = 
+returns c =
     let a = c.args in
-    rw (not-false a.lead c.if-not-lead.false) (rest-whole _ a.lacing.now ∙ c.lead_values-n.ensures.values)
+    rw c.if-not-lead.false (rest-whole _ a.lacing.now ∙ c.lead_values-n.ensures.values)

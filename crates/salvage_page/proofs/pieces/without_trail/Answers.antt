@@ -5,11 +5,11 @@ use Rattle.salvage_page.proofs.Sums.{front_length}
 use Rattle.salvage_page.proofs.pieces.without_trail.Goals as goal
 
 pub returns-then-not-trail : goal.returns-then-not-trail
-returns-then-not-trail c = rw (not-true c.args.trail c.if-not-trail.true)
+returns-then-not-trail c = rw c.if-not-trail.true
 
 pub slice_bounds-result-end : goal.slice_bounds-result-end
 slice_bounds-result-end c = front_length _ _ c.kept_values-n.ensures.inside
 
 pub returns : goal.returns
-returns c = 
-    rw (not-false c.args.trail c.if-not-trail.false) c.kept_values-n.ensures.values
+returns c =
+    rw c.if-not-trail.false c.kept_values-n.ensures.values
