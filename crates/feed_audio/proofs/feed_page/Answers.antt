@@ -10,14 +10,11 @@ use Rattle.feed_audio.proofs.feed_page.Goals as goal
 use Rattle.feed_audio.proofs.feed_page.Lts as lts
 use Rattle.feed_audio.proofs.feed_page.Tie as tie
 
-abbrev In-Rest-2 : Type 0
-In-Rest-2 = lts.After-rest tie.the-claims tie.handed_pre tie.handed_post
-
 abbrev Start : Type 0
 Start = lts.Start tie.the-claims tie.handed_pre tie.handed_post
 
 -- the scan as the rules name it
-scan : (c : In-Rest-2) → Rest c.in-Rest.rest
+scan : (c : goal.In-Rest) → Rest c.in-Rest.rest
     ≡ scan_by c.args.core.pending
     c.args.lacing.now
 scan c = sym c.in-Rest.is ∙ c.scan_page.ensures

@@ -10,17 +10,14 @@ use Rattle.feed_page.proofs.page_due.Goals as goal
 use Rattle.feed_page.proofs.page_due.Lts as lts
 use Rattle.feed_page.proofs.page_due.Tie as tie
 
-abbrev In-Page-2 : Type 0
-In-Page-2 = lts.After-read tie.the-claims tie.handed_pre tie.handed_post
-
 abbrev Start : Type 0
 Start = lts.Start tie.the-claims tie.handed_pre tie.handed_post
 
 -- a page was read
-abbrev start : In-Page-2 → Start
+abbrev start : goal.In-Page → Start
 start c = c.before.before
 
-is-page : (c : In-Page-2) → (start c).args.read ≡ Page c.in-Page.h
+is-page : (c : goal.In-Page) → (start c).args.read ≡ Page c.in-Page.h
 is-page c = cc
 
 pub returns-in-Passed : goal.returns-in-Passed

@@ -34,7 +34,7 @@ pub slice_bounds-all_zero-count : goal.slice_bounds-all_zero-count
 slice_bounds-all_zero-count c = omega (arith, c.index_count-used.ensures.most)
 
 pub slice_bounds-all_zero-end : goal.slice_bounds-all_zero-end
-slice_bounds-all_zero-end c = omega (arith, long c.before.before.before.before, c.index_count-used.ensures.most)
+slice_bounds-all_zero-end c = omega (arith, long c.before.before, c.index_count-used.ensures.most)
 
 pub returns-then-not-all_zero : goal.returns-then-not-all_zero
 returns-then-not-all_zero c =

@@ -52,8 +52,8 @@ slice_bounds-begins_with-end-2 c = let n : ℕ = c.least-n.result in omega (arit
 pub returns : goal.returns
 returns c =
     let w = c.before.before.before.before.before.before.before in
-    let same : (head w).coupled ≡ (head w).channels - 1 = sym (coupled w) ∙ c.if-coupled-channels.false ∙ ap (λ (n : ℕ). n - 1) (channels w) in
+    let same : (head w.before.before).coupled ≡ (head w.before.before).channels - 1 = sym (coupled w.before.before) ∙ c.if-coupled-channels.false ∙ ap (λ (n : ℕ). n - 1) (channels w.before.before) in
     c.begins_with.ensures
     ∙ sym
-    (start_decides (head w) (family w) c.if-h-ne1.false same
-    (c.least-n.ensures ∙ ap (λ (n : ℕ). min n 2) (channels w)))
+    (start_decides (head w.before.before) (family w.before.before) c.if-h-ne1.false same
+    (c.least-n.ensures ∙ ap (λ (n : ℕ). min n 2) (channels w.before.before)))

@@ -21,11 +21,8 @@ use Rattle.list_headers.proofs.put_comments.Goals as goal
 use Rattle.list_headers.proofs.put_comments.Lts as lts
 use Rattle.list_headers.proofs.put_comments.Tie as tie
 
-abbrev In-Found-2 : Type 0
-In-Found-2 = lts.After-part tie.the-claims tie.handed_pre tie.handed_post goal.the-invariant-loop-left goal.the-decreases-loop-left
-
 -- the part that was found
-module _ (c : In-Found-2) where
+module _ (c : goal.In-Found) where
   found : find_text c.args.b.now c.loop-left.place ≡ gives c.in-Found.part
   found = sym c.find_text.ensures ∙ ap told_part c.in-Found.is
 

@@ -13,11 +13,11 @@ use Rattle.packet_frames.proofs.packet_frames.Goals as goal
 use Rattle.packet_frames.proofs.packet_frames.Lts as lts
 use Rattle.packet_frames.proofs.packet_frames.Tie as tie
 
-abbrev In-Frames-2 : Type 0
-In-Frames-2 = lts.After-layout tie.the-claims tie.handed_pre tie.handed_post
+abbrev In-Frames : Type 0
+In-Frames = lts.After-known_told tie.the-claims tie.handed_pre tie.handed_post
 
 -- what is known of the layout where its fields are bound
-module _ (c : In-Frames-2) where
+module _ (c : In-Frames) where
   abbrev packet : Bytes
   packet = c.args.s.now
 

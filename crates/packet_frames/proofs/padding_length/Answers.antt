@@ -18,7 +18,7 @@ use Rattle.packet_frames.proofs.padding_length.Tie as tie
 abbrev After-wide-v : Type 0
 After-wide-v = lts.After-wide tie.the-claims tie.handed_pre tie.handed_post goal.the-invariant-loop-place goal.the-decreases-loop-place
 
-turn : (w : After-wide-v (wide-reads.Asked, wide-reads.Learnt) reads.Pre reads.Post invariant_loop decreases_loop)
+turn : (w : After-wide-v)
     → let l = w.before.before.before.loop in
     let a = w.before.before.before.before.before.args in
     let s = a.s.now in

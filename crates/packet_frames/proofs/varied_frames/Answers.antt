@@ -10,10 +10,7 @@ use Rattle.packet_frames.proofs.varied_frames.Goals as goal
 use Rattle.packet_frames.proofs.varied_frames.Lts as lts
 use Rattle.packet_frames.proofs.varied_frames.Tie as tie
 
-abbrev In-Value-2 : Type 0
-In-Value-2 = lts.After-sum tie.the-claims tie.handed_pre tie.handed_post
-
-others : (w : In-Value-2)
+others : (w : goal.In-Value)
     → let a = w.args in
     let got = w.in-Value.sum-1.given.0 in
     Others a.s.now a.at a.count a.padding got.0 got.1.0

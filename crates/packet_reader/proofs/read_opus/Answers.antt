@@ -16,11 +16,8 @@ use Rattle.packet_reader.proofs.read_opus.Goals as goal
 use Rattle.packet_reader.proofs.read_opus.Lts as lts
 use Rattle.packet_reader.proofs.read_opus.Tie as tie
 
-abbrev In-Frames-2 : Type 0
-In-Frames-2 = lts.After-count tie.the-claims tie.handed_pre tie.handed_post
-
 -- the frames that were found
-module _ (c : In-Frames-2) where
+module _ (c : goal.In-Frames) where
   abbrev first : goal.After-byte_at-toc
   first = c.before.before.before
 

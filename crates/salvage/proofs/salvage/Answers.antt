@@ -11,9 +11,6 @@ use Rattle.salvage.proofs.salvage.Goals as goal
 use Rattle.salvage.proofs.salvage.Lts as lts
 use Rattle.salvage.proofs.salvage.Tie as tie
 
-abbrev In-Pages-2 : Type 0
-In-Pages-2 = lts.After-n tie.the-claims tie.handed_pre tie.handed_post
-
 abbrev After-find_kept : Type 0
 After-find_kept = lts.After-find_kept tie.the-claims tie.handed_pre tie.handed_post
 
@@ -21,7 +18,7 @@ abbrev Start : Type 0
 Start = lts.Start tie.the-claims tie.handed_pre tie.handed_post
 
 -- where the pages were found
-module _ (arm : In-Pages-2) where
+module _ (arm : goal.In-Pages) where
   abbrev call : After-find_kept
   call = arm.before.before.before.before
 

@@ -55,7 +55,7 @@ loop-i-smaller c = omega arith
 pub loop-i-preserved : goal.loop-i-preserved
 loop-i-preserved c =
     let seen = c.before.before.before.before in
-    rw c.less_one-k.ensures (filling_next (split seen) c.put_image-place.ensures seen.requires)
+    rw c.less_one-k.ensures (filling_next (split seen.before.before.before) c.put_image-place.ensures seen.requires)
 
 pub shape_of-out : goal.shape_of-out
 shape_of-out c = c.loop-i.invariant.size

@@ -15,15 +15,15 @@ law : (c : Start) → bits_by c.args.n c.args.lead ≡ lead_bits c.args.lead
 law c = lead_bits_lem c.args.lead c.args.n c.ranges.lead.fits c.requires.same c.requires.some
 
 pub returns-in-2 : goal.returns-in-2
-returns-in-2 c = rw c.in-2.is at (law c.before.before)
+returns-in-2 c = rw c.in-2.is at (law c.before)
 
 pub returns-in-3 : goal.returns-in-3
-returns-in-3 c = rw c.in-3.is at (law c.before.before)
+returns-in-3 c = rw c.in-3.is at (law c.before)
 
 pub returns-in-4 : goal.returns-in-4
-returns-in-4 c = rw c.in-4.is at (law c.before.before)
+returns-in-4 c = rw c.in-4.is at (law c.before)
 
 pub returns-in_default : goal.returns-in_default
 returns-in_default c =
     let no = c.in_default.in_default-own.rest in
-    simp (ne_eqb _ _ no.0.0.1, ne_eqb _ _ no.0.1, ne_eqb _ _ no.1) at (law c.before.before)
+    simp (ne_eqb _ _ no.0.0.1, ne_eqb _ _ no.0.1, ne_eqb _ _ no.1) at (law c.before)

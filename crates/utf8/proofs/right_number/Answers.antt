@@ -31,12 +31,12 @@ returns-then-x-least_of c = simp (lt-leb _ _ (rw c.least_of.ensures at c.if-x-le
 
 pub returns-then-x-gt1114111 : goal.returns-then-x-gt1114111
 unfolding right_number
-returns-then-x-gt1114111 c = simp (le-leb _ _ (enough c.before.before), lt-leb _ _ c.if-x-gt1114111.true)
+returns-then-x-gt1114111 c = simp (le-leb _ _ (enough c.before), lt-leb _ _ c.if-x-gt1114111.true)
 
 pub returns-then-x-lt55296 : goal.returns-then-x-lt55296
 unfolding right_number
-returns-then-x-lt55296 c = simp (le-leb _ _ (enough c.before.before.before), le-leb _ _ c.if-x-gt1114111.false, lt-leb _ _ c.if-x-lt55296.true)
+returns-then-x-lt55296 c = simp (le-leb _ _ (enough c.before.before), le-leb _ _ c.if-x-gt1114111.false, lt-leb _ _ c.if-x-lt55296.true)
 
 pub returns : goal.returns
 unfolding right_number
-returns c = simp (le-leb _ _ (enough c.before.before.before), le-leb _ _ c.if-x-gt1114111.false, le-leb _ _ c.if-x-lt55296.false) (above 0xDFFF c.args.x)
+returns c = simp (le-leb _ _ (enough c.before.before), le-leb _ _ c.if-x-gt1114111.false, le-leb _ _ c.if-x-lt55296.false) (above 0xDFFF c.args.x)

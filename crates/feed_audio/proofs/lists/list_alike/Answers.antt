@@ -20,9 +20,6 @@ After-judge_page = lts.After-judge_page tie.the-claims tie.handed_pre tie.handed
 abbrev Start : Type 0
 Start = lts.Start tie.the-claims tie.handed_pre tie.handed_post
 
-abbrev In-Packets-2 : Type 0
-In-Packets-2 = lts.After-n tie.the-claims tie.handed_pre tie.handed_post
-
 -- the page is judged by the samples of these packets
 module _ (c : After-judge_page) where
   abbrev entry : Start
@@ -35,7 +32,7 @@ module _ (c : After-judge_page) where
       c.judge_page.ensures _ _ (measures-alike a.count a.toc entry.requires.few (ap (λ (d : ℕ). a.count * d) c.frame_samples-samples.ensures))
 
 -- they lie where they were judged to lie
-module _ (c : In-Packets-2) where
+module _ (c : goal.In-Packets) where
   abbrev judged : After-judge_page
   judged = c.before.before
 

@@ -7,8 +7,8 @@ use Rattle.feed_audio.proofs.lists.list_page.Goals as goal
 use Rattle.feed_audio.proofs.lists.list_page.Lts as lts
 use Rattle.feed_audio.proofs.lists.list_page.Tie as tie
 
-abbrev In-Each-2 : Type 0
-In-Each-2 = lts.After-count tie.the-claims tie.handed_pre tie.handed_post
+abbrev In-Each : Type 0
+In-Each = lts.After-known_told tie.the-claims tie.handed_pre tie.handed_post
 
 abbrev After-same_on : Type 0
 After-same_on = lts.After-same_on tie.the-claims tie.handed_pre tie.handed_post
@@ -17,7 +17,7 @@ abbrev Start : Type 0
 Start = lts.Start tie.the-claims tie.handed_pre tie.handed_post
 
 -- the packets that are alike
-module _ (c : In-Each-2) where
+module _ (c : In-Each) where
   abbrev looked : After-same_on
   looked = c.before.before
 

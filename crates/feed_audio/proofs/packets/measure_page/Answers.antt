@@ -15,23 +15,20 @@ use Rattle.feed_audio.proofs.packets.measure_page.Goals as goal
 use Rattle.feed_audio.proofs.packets.measure_page.Lts as lts
 use Rattle.feed_audio.proofs.packets.measure_page.Tie as tie
 
-abbrev In-Held-2 : Type 0
-In-Held-2 = lts.After-pending tie.the-claims tie.handed_pre tie.handed_post
-
-abbrev In-Legal-2 : Type 0
-In-Legal-2 = lts.After-contents tie.the-claims tie.handed_pre tie.handed_post
+abbrev In-Legal : Type 0
+In-Legal = lts.After-known_told3 tie.the-claims tie.handed_pre tie.handed_post
 
 -- the held packet lies in the carry buffer
-held : (c : In-Held-2) → c.in-Held.n + c.args.bytes ≤ length c.args.carry.now
+held : (c : goal.In-Held) → c.in-Held.n + c.args.bytes ≤ length c.args.carry.now
 held c =
     let q : c.args.pending ≡ Held c.in-Held.n = c.in-Held.is in
     rw q at c.requires.held
 
 -- the held packet's measure, which fits one number
-abbrev measured : In-Legal-2 → Measure
+abbrev measured : In-Legal → Measure
 measured c = c.contents.given.0.0.measure
 
-fits : (c : In-Legal-2) → Packable (measured c)
+fits : (c : In-Legal) → Packable (measured c)
 fits c = packable _ _ _ (read_as c.read_packet.ensures c.in-Legal.is)
 
 pub measure-requires : goal.measure-requires
