@@ -5,6 +5,15 @@ use feed_pages::Stop;
 use limits::PACKET_MAX;
 use reader::Reader;
 use refusal::Refusal;
+use std::io::{Error, ErrorKind, Read, Stderr, Stdin, Stdout, Write};
+
+// Standard input, standard output and standard error.
+#[derive(Clone, Copy)]
+struct Streams {
+    input: Stdin,
+    output: Stdout,
+    errors: Stderr,
+}
 
 // How far a listing has come. The bytes of the buffer from `from` to `to` are not fed yet. The places of the lists from
 // `listed` to `packets` are not written yet. `filled` bytes of the output are filled. `stop` is why the last run of pages
@@ -42,31 +51,39 @@ fn part(list: &[u64], from: usize, to: usize) -> &[u64] {
     &list[start..end]
 }
 
+// Says on standard error what failed, and why.
+fn fail(streams: Streams, what: &str, why: Error) {
+    let mut errors = streams.errors;
+    let _said = writeln!(errors, "list: {what}: {why}");
+}
+
 // Writes the first n bytes of the output. A failure is said on standard error.
-fn write_out(out: &[u8], n: usize) -> bool {
-    let done = io::write_all(libc::STDOUT_FILENO, octets::part_of(out, 0, n));
-    if !done {
-        os::fail(b"list: cannot write");
+fn write_out(streams: Streams, out: &[u8], n: usize) -> bool {
+    let mut output = streams.output;
+    match output.write_all(octets::part_of(out, 0, n)) {
+        Ok(_) => true,
+        Err(why) => {
+            fail(streams, "cannot write", why);
+            false
+        }
     }
-    done
 }
 
 // One read, to the place `at` of the buffer. A failure is said on standard error.
-fn read_more(buffer: &mut [u8], at: usize) -> Input {
+fn read_more(streams: Streams, buffer: &mut [u8], at: usize) -> Input {
     let start = octets::least(at, buffer.len());
-    let space = &mut buffer[start..];
-    let got = libc::read(libc::STDIN_FILENO, space);
-    if got > 0 {
-        return Input::Bytes(start + io::count(got, space));
+    let mut input = streams.input;
+    match input.read(&mut buffer[start..]) {
+        Ok(0) => Input::End,
+        Ok(n) => Input::Bytes(std::num::wrapping_add_usize(start, n)),
+        Err(why) => {
+            if why.kind() == ErrorKind::Interrupted {
+                return Input::Bytes(start);
+            }
+            fail(streams, "cannot read standard input", why);
+            Input::Failed
+        }
     }
-    if got == 0 {
-        return Input::End;
-    }
-    if os::errno() == libc::EINTR {
-        return Input::Bytes(start);
-    }
-    os::fail(b"list: cannot read standard input");
-    Input::Failed
 }
 
 // The same listing with other bytes to feed, and another reason to go on or to end.
@@ -122,6 +139,7 @@ fn feed_more(
 
 // The lines of packets, as many as the output has room for; where it has no more, it is written and emptied.
 fn put_lines(
+    streams: Streams,
     w: Listing,
     ends: &[u64],
     lengths: &[u64],
@@ -140,7 +158,7 @@ fn put_lines(
     let listed = std::num::wrapping_add_usize(w.listed, put.count);
     let mut filled = put.at;
     if listed < w.packets {
-        if !write_out(out, filled) {
+        if !write_out(streams, out, filled) {
             return Step::Ends;
         }
         filled = 0;
@@ -159,42 +177,43 @@ fn put_lines(
     })
 }
 
-fn end_with_refusal(w: Listing, why: Refusal, out: &mut [u8]) {
-    if write_out(out, w.filled) {
+fn end_with_refusal(streams: Streams, w: Listing, why: Refusal, out: &mut [u8]) {
+    if write_out(streams, out, w.filled) {
         let n = list_lines::put_refused(out, 0, refusal::number(why) as u64, w.pages);
-        write_out(out, n);
+        write_out(streams, out, n);
     }
 }
 
-fn end_with_total(w: Listing, out: &mut [u8]) {
-    if write_out(out, w.filled) {
+fn end_with_total(streams: Streams, w: Listing, out: &mut [u8]) {
+    if write_out(streams, out, w.filled) {
         let s = reader::totals(w.reader);
         let n = list_lines::put_total(out, 0, s.kept, s.skipped, s.trimmed, s.hole);
-        write_out(out, n);
+        write_out(streams, out, n);
     }
 }
 
 // More input, where the last page of the buffer is not whole.
-fn read_on(w: Listing, buffer: &mut [u8], out: &mut [u8]) -> Step {
+fn read_on(streams: Streams, w: Listing, buffer: &mut [u8], out: &mut [u8]) -> Step {
     let n = buffers::move_down(buffer, w.from, w.to);
-    match read_more(buffer, n) {
+    match read_more(streams, buffer, n) {
         Input::Bytes(to) => Step::Goes(moved(w, 0, to, Stop::Full)),
         Input::End => {
             if n == 0 {
-                end_with_total(w, out);
+                end_with_total(streams, w, out);
             } else {
-                end_with_refusal(w, feed_partial::refusal_of_rest(w.reader), out);
+                end_with_refusal(streams, w, feed_partial::refusal_of_rest(w.reader), out);
             }
             Step::Ends
         }
         Input::Failed => {
-            write_out(out, w.filled);
+            write_out(streams, out, w.filled);
             Step::Ends
         }
     }
 }
 
 fn turn(
+    streams: Streams,
     w: Listing,
     buffer: &mut [u8],
     carry: &mut [u8],
@@ -205,14 +224,14 @@ fn turn(
     out: &mut [u8],
 ) -> Step {
     if w.listed < w.packets {
-        return put_lines(w, ends, lengths, kept, frames, out);
+        return put_lines(streams, w, ends, lengths, kept, frames, out);
     }
     let stop = w.stop;
     match stop {
         Stop::Full => Step::Goes(feed_more(w, buffer, carry, ends, lengths, kept, frames)),
-        Stop::Cut => read_on(w, buffer, out),
+        Stop::Cut => read_on(streams, w, buffer, out),
         Stop::Refused(why) => {
-            end_with_refusal(w, why, out);
+            end_with_refusal(streams, w, why, out);
             Step::Ends
         }
     }
@@ -220,6 +239,7 @@ fn turn(
 
 // No input has as many turns as are counted here: the count only says that the loop ends.
 fn run(
+    streams: Streams,
     start: Listing,
     buffer: &mut [u8],
     carry: &mut [u8],
@@ -232,7 +252,7 @@ fn run(
     let mut w = start;
     let mut turns = u64::MAX;
     while turns > 0 {
-        match turn(w, buffer, carry, ends, lengths, kept, frames, out) {
+        match turn(streams, w, buffer, carry, ends, lengths, kept, frames, out) {
             Step::Goes(next) => w = next,
             Step::Ends => return,
         }
@@ -240,7 +260,12 @@ fn run(
     }
 }
 
-fn main() {
+fn main(rt: HostRuntime) {
+    let streams = Streams {
+        input: rt.stdin(),
+        output: rt.stdout(),
+        errors: rt.stderr(),
+    };
     let mut buffer = [0u8; 262144];
     let mut carry = [0u8; PACKET_MAX];
     let mut ends = [0u64; 1024];
@@ -260,6 +285,7 @@ fn main() {
         stop: Stop::Cut,
     };
     run(
+        streams,
         start,
         &mut buffer,
         &mut carry,

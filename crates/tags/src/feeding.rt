@@ -1,7 +1,9 @@
 // Reading standard input, and feeding its pages up to the comment header.
+use super::{Streams, fail};
 use limits::LIST_MAX;
 use page_end::End;
 use reader::{Fed, Reader};
+use std::io::{ErrorKind, Read};
 
 #[derive(Clone, Copy)]
 pub(crate) enum Stage {
@@ -44,21 +46,20 @@ enum Got {
 // ---- reading
 
 // Reads on after the first n bytes, and tells where the bytes end now. A failure is said on standard error.
-fn read_after(buffer: &mut [u8], n: usize) -> Got {
+fn read_after(streams: Streams, buffer: &mut [u8], n: usize) -> Got {
     let at = octets::least(n, buffer.len());
-    let got = libc::read(libc::STDIN_FILENO, &mut buffer[at..]);
-    if got < 0 {
-        if os::errno() == libc::EINTR {
-            return Got::Bytes(at);
+    let mut input = streams.input;
+    match input.read(&mut buffer[at..]) {
+        Ok(0) => Got::Nothing,
+        Ok(more) => Got::Bytes(std::num::wrapping_add_usize(at, more)),
+        Err(why) => {
+            if why.kind() == ErrorKind::Interrupted {
+                return Got::Bytes(at);
+            }
+            fail(streams, "cannot read standard input", why);
+            Got::Failed
         }
-        os::fail(b"tags: cannot read standard input");
-        return Got::Failed;
     }
-    if got == 0 {
-        return Got::Nothing;
-    }
-    let more = io::count(got, &buffer[at..]);
-    Got::Bytes(std::num::wrapping_add_usize(at, more))
 }
 
 // ---- feeding
@@ -137,8 +138,8 @@ fn ended(p: Progress, n: usize) -> Progress {
 }
 
 // Reads on after the first n bytes.
-fn read_turn(p: Progress, n: usize, buffer: &mut [u8]) -> State {
-    match read_after(buffer, n) {
+fn read_turn(streams: Streams, p: Progress, n: usize, buffer: &mut [u8]) -> State {
+    match read_after(streams, buffer, n) {
         Got::Bytes(end) => State {
             progress: p,
             start: 0,
@@ -158,7 +159,13 @@ fn read_turn(p: Progress, n: usize, buffer: &mut [u8]) -> State {
 }
 
 // Feeds one page, or reads on where it is not whole yet.
-fn turn(s: State, buffer: &mut [u8], carry: &mut [u8], header: &mut [u8]) -> State {
+fn turn(
+    streams: Streams,
+    s: State,
+    buffer: &mut [u8],
+    carry: &mut [u8],
+    header: &mut [u8],
+) -> State {
     let p = s.progress;
     match page_end::end_at(octets::part_of(buffer, 0, s.end), s.start) {
         End::At(last) => {
@@ -171,7 +178,7 @@ fn turn(s: State, buffer: &mut [u8], carry: &mut [u8], header: &mut [u8]) -> Sta
         }
         End::Cut => {
             let n = buffers::move_down(buffer, s.start, s.end);
-            read_turn(p, n, buffer)
+            read_turn(streams, p, n, buffer)
         }
     }
 }
@@ -202,11 +209,16 @@ fn begin() -> State {
 }
 
 // Reads and feeds until the stage is another. The identification header's packet is left in `header`.
-pub(crate) fn run(buffer: &mut [u8], carry: &mut [u8], header: &mut [u8]) -> Progress {
+pub(crate) fn run(
+    streams: Streams,
+    buffer: &mut [u8],
+    carry: &mut [u8],
+    header: &mut [u8],
+) -> Progress {
     let mut turns = u64::MAX;
     let mut s = begin();
     while turns > 0 {
-        s = turn(s, buffer, carry, header);
+        s = turn(streams, s, buffer, carry, header);
         let p = s.progress;
         if !goes_on(p) {
             return p;

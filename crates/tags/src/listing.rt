@@ -1,5 +1,5 @@
 // Listing the two headers.
-use super::write;
+use super::{Streams, write};
 use head_fields::Head;
 use head_matrix::EntryRead;
 use tags_layout::{Part, PartRead};
@@ -15,11 +15,11 @@ struct Listing {
 }
 
 // Writes what is filled, unless the listing has ended by a failure.
-fn write_rest(l: Listing, out: &[u8]) -> bool {
+fn write_rest(streams: Streams, l: Listing, out: &[u8]) -> bool {
     if !l.goes_on {
         return false;
     }
-    write(out, l.filled)
+    write(streams, out, l.filled)
 }
 
 // ---- the identification header
@@ -46,7 +46,7 @@ fn put_piece(out: &mut [u8], at: usize, header: &[u8], i: usize) -> usize {
 }
 
 // The next piece of the matrix. Where it does not fit after the others, those are written first.
-fn list_piece(l: Listing, header: &[u8], out: &mut [u8]) -> Listing {
+fn list_piece(streams: Streams, l: Listing, header: &[u8], out: &mut [u8]) -> Listing {
     let place = std::num::wrapping_add_usize(l.place, 1);
     let filled = put_piece(out, l.filled, header, l.place);
     if filled > l.filled {
@@ -56,7 +56,7 @@ fn list_piece(l: Listing, header: &[u8], out: &mut [u8]) -> Listing {
             goes_on: true,
         };
     }
-    let goes_on = write(out, l.filled);
+    let goes_on = write(streams, out, l.filled);
     Listing {
         place,
         filled: put_piece(out, 0, header, l.place),
@@ -64,11 +64,17 @@ fn list_piece(l: Listing, header: &[u8], out: &mut [u8]) -> Listing {
     }
 }
 
-fn list_pieces(first: Listing, n: usize, header: &[u8], out: &mut [u8]) -> Listing {
+fn list_pieces(
+    streams: Streams,
+    first: Listing,
+    n: usize,
+    header: &[u8],
+    out: &mut [u8],
+) -> Listing {
     let mut l = first;
     let mut i = 0;
     while i < n {
-        l = list_piece(l, header, out);
+        l = list_piece(streams, l, header, out);
         if !l.goes_on {
             return l;
         }
@@ -78,7 +84,7 @@ fn list_pieces(first: Listing, n: usize, header: &[u8], out: &mut [u8]) -> Listi
 }
 
 // The line of a matrix of n entries, after the first `at` bytes, which are written with it: its pieces are these and a line feed.
-fn list_matrix(at: usize, n: usize, header: &[u8], out: &mut [u8]) -> bool {
+fn list_matrix(streams: Streams, at: usize, n: usize, header: &[u8], out: &mut [u8]) -> bool {
     let filled = text_put::put_bytes(out, at, b"matrix");
     let first = Listing {
         place: 0,
@@ -86,12 +92,12 @@ fn list_matrix(at: usize, n: usize, header: &[u8], out: &mut [u8]) -> bool {
         goes_on: true,
     };
     let pieces = std::num::wrapping_add_usize(n, 1);
-    let l = list_pieces(first, pieces, header, out);
-    write_rest(l, out)
+    let l = list_pieces(streams, first, pieces, header, out);
+    write_rest(streams, l, out)
 }
 
 // Its lines are written before those of the comment header, so that a matrix leaves the vendor all of the buffer.
-fn list_head(header: &[u8], out: &mut [u8]) -> bool {
+fn list_head(streams: Streams, header: &[u8], out: &mut [u8]) -> bool {
     let read = head_reader::read_head(header);
     let head = read.head;
     let at = put_format(out, head);
@@ -99,10 +105,10 @@ fn list_head(header: &[u8], out: &mut [u8]) -> bool {
     let at = put_streams(out, at, head);
     let n = head_matrix::matrix(header).len() / 2;
     if n > 0 {
-        return list_matrix(at, n, header, out);
+        return list_matrix(streams, at, n, header, out);
     }
     let filled = head_lines::put_mapping(out, at, head);
-    write(out, filled)
+    write(streams, out, filled)
 }
 
 // ---- the comment header
@@ -123,7 +129,7 @@ fn count_of(packet: &[u8]) -> usize {
 }
 
 // The next comment. Where its line does not fit after the others, those are written first.
-fn list_comment(l: Listing, packet: &[u8], out: &mut [u8]) -> Listing {
+fn list_comment(streams: Streams, l: Listing, packet: &[u8], out: &mut [u8]) -> Listing {
     let p = part_at(packet, l.place);
     let comment = octets::part_of(packet, p.start, p.size);
     let place = std::num::wrapping_add_usize(p.start, p.size);
@@ -135,7 +141,7 @@ fn list_comment(l: Listing, packet: &[u8], out: &mut [u8]) -> Listing {
             goes_on: true,
         };
     }
-    let goes_on = write(out, l.filled);
+    let goes_on = write(streams, out, l.filled);
     Listing {
         place,
         filled: tags_lines::put_comment(out, 0, comment),
@@ -143,11 +149,17 @@ fn list_comment(l: Listing, packet: &[u8], out: &mut [u8]) -> Listing {
     }
 }
 
-fn list_comments(first: Listing, n: usize, packet: &[u8], out: &mut [u8]) -> Listing {
+fn list_comments(
+    streams: Streams,
+    first: Listing,
+    n: usize,
+    packet: &[u8],
+    out: &mut [u8],
+) -> Listing {
     let mut l = first;
     let mut i = 0;
     while i < n {
-        l = list_comment(l, packet, out);
+        l = list_comment(streams, l, packet, out);
         if !l.goes_on {
             return l;
         }
@@ -167,7 +179,7 @@ fn put_vendor(out: &mut [u8], packet: &[u8]) -> usize {
     )
 }
 
-fn list_tags(packet: &[u8], out: &mut [u8]) {
+fn list_tags(streams: Streams, packet: &[u8], out: &mut [u8]) {
     let n = count_of(packet);
     let at = put_vendor(out, packet);
     let filled = head_lines::put_number(out, at, b"comments ", n as u64);
@@ -176,23 +188,23 @@ fn list_tags(packet: &[u8], out: &mut [u8]) {
         filled,
         goes_on: true,
     };
-    let l = list_comments(first, n, packet, out);
-    write_rest(l, out);
+    let l = list_comments(streams, first, n, packet, out);
+    write_rest(streams, l, out);
 }
 
 // ---- both
 
 // The output buffer has room for any line but that of a matrix, which is put in pieces: a packet has at most 61,440 bytes, and
 // an escape four for each.
-pub(crate) fn list(header: &[u8], packet: &[u8]) {
+pub(crate) fn list(streams: Streams, header: &[u8], packet: &[u8]) {
     let mut out = [0u8; 262144];
-    if list_head(header, &mut out) {
-        list_tags(packet, &mut out);
+    if list_head(streams, header, &mut out) {
+        list_tags(streams, packet, &mut out);
     }
 }
 
-pub(crate) fn list_refused(number: u8, page: u64) {
+pub(crate) fn list_refused(streams: Streams, number: u8, page: u64) {
     let mut out = [0u8; 64];
     let n = list_lines::put_refused(&mut out, 0, number as u64, page);
-    write(&out, n);
+    write(streams, &out, n);
 }

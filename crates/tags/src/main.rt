@@ -4,43 +4,68 @@
 // Sums that could wrap only past the end of all memory are written as wrapping ones.
 use feeding::{Progress, Stage};
 use limits::PACKET_MAX;
+use std::io::{Error, Stderr, Stdin, Stdout, Write};
 
 mod feeding;
 mod listing;
 
-fn say(message: &[u8]) {
-    io::write_all(libc::STDERR_FILENO, message);
+// Standard input, standard output and standard error.
+#[derive(Clone, Copy)]
+pub(crate) struct Streams {
+    pub(crate) input: Stdin,
+    output: Stdout,
+    errors: Stderr,
+}
+
+fn say(streams: Streams, message: &str) {
+    let mut errors = streams.errors;
+    let _said = errors.write_all(message.as_bytes());
+}
+
+// Says on standard error what failed, and why.
+pub(crate) fn fail(streams: Streams, what: &str, why: Error) {
+    let mut errors = streams.errors;
+    let _said = writeln!(errors, "tags: {what}: {why}");
 }
 
 // Writes the first n bytes. A failure is said on standard error.
-pub(crate) fn write(out: &[u8], n: usize) -> bool {
-    let written = io::write_all(libc::STDOUT_FILENO, octets::part_of(out, 0, n));
-    if !written {
-        os::fail(b"tags: cannot write");
+pub(crate) fn write(streams: Streams, out: &[u8], n: usize) -> bool {
+    let mut output = streams.output;
+    match output.write_all(octets::part_of(out, 0, n)) {
+        Ok(_) => true,
+        Err(why) => {
+            fail(streams, "cannot write", why);
+            false
+        }
     }
-    written
 }
 
-fn tell(p: Progress, carry: &[u8], header: &[u8]) {
+fn tell(streams: Streams, p: Progress, carry: &[u8], header: &[u8]) {
     let stage = p.stage;
     match stage {
-        Stage::Feeding => say(b"tags: the input does not end\n"),
+        Stage::Feeding => say(streams, "tags: the input does not end\n"),
         Stage::Complete(size) => listing::list(
+            streams,
             octets::part_of(header, 0, p.header_size),
             octets::part_of(carry, 0, size),
         ),
-        Stage::Refused(number) => listing::list_refused(number, p.pages),
-        Stage::Cut => say(b"tags: the input ends before the comment header\n"),
+        Stage::Refused(number) => listing::list_refused(streams, number, p.pages),
+        Stage::Cut => say(streams, "tags: the input ends before the comment header\n"),
         Stage::Unread => {}
     }
 }
 
 // The input buffer has room for a page, of 65,307 bytes at most, and for a read as long after it. The other two have room for
 // a packet each: the comment header, and the identification header.
-fn main() {
+fn main(rt: HostRuntime) {
+    let streams = Streams {
+        input: rt.stdin(),
+        output: rt.stdout(),
+        errors: rt.stderr(),
+    };
     let mut buffer = [0u8; 131072];
     let mut carry = [0u8; PACKET_MAX];
     let mut header = [0u8; PACKET_MAX];
-    let p = feeding::run(&mut buffer, &mut carry, &mut header);
-    tell(p, &carry, &header);
+    let p = feeding::run(streams, &mut buffer, &mut carry, &mut header);
+    tell(streams, p, &carry, &header);
 }
