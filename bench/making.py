@@ -18,7 +18,7 @@ INPUTS = (('2.5 ms packets, 255 a page', '2.5', 255, 1),       # many short pack
 def library():
     """Builds the library if it is not there yet."""
     if not LIBRARY.exists():
-        subprocess.run(['rt', 'staticlib', 'embulgri'], cwd=ROOT, stdout=sys.stderr, check=True)
+        subprocess.run(['tools/staticlib', 'embulgri'], cwd=ROOT, stdout=sys.stderr, check=True)
 
 
 def build(name, *flags):

@@ -1,4 +1,4 @@
-//! Links the two static libraries that `rt staticlib` writes.
+//! Links the two static libraries that `tools/staticlib` writes.
 
 use std::env;
 use std::path::Path;
@@ -14,7 +14,7 @@ fn main() {
         println!("cargo:rerun-if-changed={}", library.display());
         assert!(
             library.is_file(),
-            "{} is missing: run `rt staticlib {name}` first",
+            "{} is missing: run `tools/staticlib {name}` first",
             library.display()
         );
         println!("cargo:rustc-link-lib=static={name}");

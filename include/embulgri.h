@@ -1,6 +1,6 @@
 /* Embulgri: a verified library for Ogg Opus streams (RFC 3533, RFC 6716, RFC 7845, RFC 8486).
  *
- * The static library target/staticlib/libembulgri.a, built by `rt staticlib embulgri`, is for x86-64 Linux.
+ * The static library target/staticlib/libembulgri.a, built by `tools/staticlib embulgri`, is for x86-64 Linux.
  *
  * Every function but embulgri_checksum, embulgri_start, embulgri_agree, embulgri_totals_after, embulgri_page_end,
  * embulgri_next_page, embulgri_index_count and those that put lines of a listing, of an index or of a salvage returns a

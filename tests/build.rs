@@ -1,4 +1,4 @@
-//! Links the static library that `rt staticlib embulgri` writes.
+//! Links the static library that `tools/staticlib embulgri` writes.
 
 use std::env;
 use std::path::Path;
@@ -10,7 +10,7 @@ fn main() {
     println!("cargo:rerun-if-changed={}", library.display());
     assert!(
         library.is_file(),
-        "{} is missing: run `rt staticlib embulgri` first",
+        "{} is missing: run `tools/staticlib embulgri` first",
         library.display()
     );
     println!("cargo:rustc-link-search=native={}", folder.display());

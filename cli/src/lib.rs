@@ -9,8 +9,8 @@
 //! is never null, also where its length is 0, and the borrow rules keep lent memory from
 //! overlapping, as the library asks. All unsafe code is in one private module, `ffi`.
 //!
-//! A crate that depends on this one by its path links the library too, once `rt staticlib embulgri`
-//! and `rt staticlib embulgri_program` have written it. It is for x86-64 Linux.
+//! A crate that depends on this one by its path links the library too, once `tools/staticlib embulgri`
+//! and `tools/staticlib embulgri_program` have written it. It is for x86-64 Linux.
 //!
 //! - [`reader`]: a stream followed page by page, or by the pages of a buffer, from its start or
 //!   part way: the end stamp, the length, the frames and the kept samples of each packet

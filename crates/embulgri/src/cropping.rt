@@ -12,8 +12,7 @@ use crop_start::CropStart;
 // 18 or 24; else 29 where a crop may not begin at the page; else 22 where the output is shorter than the crop; or 0. A refusal
 // changes nothing (RULES.md, 17; embulgri.h).
 // Example: no bytes return 24, and a whole stream with the page 0 returns 29.
-#[unsafe(no_mangle)]
-pub extern "C" fn embulgri_crop(stream: &[u8], page: u64, out: &mut [u8], written: &mut u64) -> u32
+pub fn embulgri_crop(stream: &[u8], page: u64, out: &mut [u8], written: &mut u64) -> u32
     ensures { CroppedIn stream.now page result out.old out.new
         written.old written.new }
 {
@@ -30,13 +29,7 @@ pub extern "C" fn embulgri_crop(stream: &[u8], page: u64, out: &mut [u8], writte
 // before the position. Into `start`: the page, and where that packet starts. Returns the number that refuses the stream, 2 to 18
 // or 24; else 29 where there is no such page; or 0. A refusal changes nothing (RULES.md, 17; embulgri.h).
 // Example: no bytes return 24, and a whole stream with `last` 0 returns 29.
-#[unsafe(no_mangle)]
-pub extern "C" fn embulgri_crop_start(
-    stream: &[u8],
-    last: u64,
-    position: u64,
-    start: &mut [u64; 2],
-) -> u32
+pub fn embulgri_crop_start(stream: &[u8], last: u64, position: u64, start: &mut [u64; 2]) -> u32
     ensures { StartIn (start_found (readings page_crc) stream.now last position) result
         start.old start.new }
 {

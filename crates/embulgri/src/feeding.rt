@@ -16,8 +16,7 @@ use stream::Counts;
 
 // Into `state`: a reader that waits for the first page of a stream (RULES.md, 7; embulgri.h). It returns nothing and refuses
 // nothing. Example: it stores sixteen zeros.
-#[unsafe(no_mangle)]
-pub extern "C" fn embulgri_start(state: &mut [u64; 16])
+pub fn embulgri_start(state: &mut [u64; 16])
     ensures { state.new ≡ numbers_of started }
 {
     *state = reader::start_state();
@@ -27,12 +26,7 @@ pub extern "C" fn embulgri_start(state: &mut [u64; 16])
 // (RULES.md, 9; embulgri.h).
 // Example: the numbers 1, 2, 312, 48000, 0, 0, 1, 1 with the places 0, 1 and zeros store 3, 0, 0, 1, 0, 0, 0, 1, 312 and
 // seven zeros.
-#[unsafe(no_mangle)]
-pub extern "C" fn embulgri_open(
-    fields: &[u64; 8],
-    mapping: &[u8; 255],
-    state: &mut [u64; 16],
-) -> u32
+pub fn embulgri_open(fields: &[u64; 8], mapping: &[u8; 255], state: &mut [u64; 16]) -> u32
     ensures { OpenedIn fields.now mapping.now result state.old state.new }
 {
     if !head_numbers::numbers_fit(fields) {
@@ -56,8 +50,7 @@ fn page_record(c: Counts) -> [u64; 6]
 // may change (RULES.md, 7; embulgri.h).
 // Example: after the headers of a stream with pre-skip 312, a page of three packets of 960 samples with granule position
 // 2880 stores 3, 2880, 2568, 312, 0, 0 into `out`.
-#[unsafe(no_mangle)]
-pub extern "C" fn embulgri_feed(
+pub fn embulgri_feed(
     state: &mut [u64; 16],
     page: &[u8],
     carry: &mut [u8],
@@ -82,8 +75,7 @@ pub extern "C" fn embulgri_feed(
 // Returns the place after the page that starts at place `at` of the bytes, or 0 where it is not whole there (RULES.md, 3;
 // embulgri.h). It stores nothing and refuses nothing.
 // Example: of "OggS" and 23 zero bytes, `at` 0 returns 27; of the first 26 of them it returns 0.
-#[unsafe(no_mangle)]
-pub extern "C" fn embulgri_page_end(bytes: &[u8], at: u64) -> u64
+pub fn embulgri_page_end(bytes: &[u8], at: u64) -> u64
     ensures { result ≡ end_number (end_at bytes.now at) }
 {
     match page_end::end_at(bytes, at as usize) {
@@ -116,8 +108,7 @@ fn refusal_number(stop: Stop) -> u32
 // filled. Into `out`, under every outcome: the bytes, the number and the packets of the pages accepted, and why it stopped, by
 // `why_number`. Into `state`: the reader after them. Returns 1 to 19 of the page that is refused, or 0 (RULES.md, 7; embulgri.h).
 // Example: the two header pages of a stream, of 47 and 44 bytes, and nothing after them store 91, 2, 0, 0 into `out`.
-#[unsafe(no_mangle)]
-pub extern "C" fn embulgri_feed_pages(
+pub fn embulgri_feed_pages(
     state: &mut [u64; 16],
     bytes: &[u8],
     carry: &mut [u8],

@@ -12,8 +12,7 @@ use index_search::Sought;
 
 // Returns how many records the index of the stream has, so that the lists can be lent (RULES.md, 15; embulgri.h). It stores
 // nothing and refuses nothing. Example: of the two header pages and an audio page with one packet it is 1.
-#[unsafe(no_mangle)]
-pub extern "C" fn embulgri_index_count(stream: &[u8]) -> u64
+pub fn embulgri_index_count(stream: &[u8]) -> u64
     ensures { result ≡ length (index_of (pages_of stream.now)) }
 {
     index_walk::count(stream) as u64
@@ -24,8 +23,7 @@ pub extern "C" fn embulgri_index_count(stream: &[u8]) -> u64
 // the lists have different lengths; else the number that refuses the stream, 2 to 18 or 24; else 22 where the records do not
 // fit; or 0 (RULES.md, 15; embulgri.h).
 // Example: no bytes, with three empty lists, return 24.
-#[unsafe(no_mangle)]
-pub extern "C" fn embulgri_index_build(
+pub fn embulgri_index_build(
     stream: &[u8],
     granules: &mut [u64],
     places: &mut [u64],
@@ -67,8 +65,7 @@ fn store_answer(sought: Sought, out: &mut [u64; 3], place: &mut u64) -> u32
 // position is below the one before it, and stores the first such place into `place`; or 0 (RULES.md, 15; embulgri.h).
 // Example: of the granule positions 5,000, 6,000, 7,000, 7,000 and 8,000, with five places and five sequence numbers, the target
 // 10,840 stores 1, 3, 3.
-#[unsafe(no_mangle)]
-pub extern "C" fn embulgri_index_seek(
+pub fn embulgri_index_seek(
     granules: &[u64],
     places: &[u64],
     sequences: &[u32],

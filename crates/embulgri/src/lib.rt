@@ -35,8 +35,7 @@ pub mod streams;
 
 // Returns the checksum of the bytes as they are (RULES.md, 3; embulgri.h). It stores nothing and refuses nothing.
 // Example: of the one byte 0x01 it is 0x04c11db7.
-#[unsafe(no_mangle)]
-pub extern "C" fn embulgri_checksum(bytes: &[u8]) -> u32
+pub fn embulgri_checksum(bytes: &[u8]) -> u32
     ensures { result ≡ crc 0 bytes.now }
 {
     page_crc::checksum(bytes)
@@ -46,8 +45,7 @@ pub extern "C" fn embulgri_checksum(bytes: &[u8]) -> u32
 // or 0 (RULES.md, 3; embulgri.h).
 // Example: a right page with flags 2, granule position 0, serial 7, sequence 0 and one lacing value of 19 stores 2, 0, 7, 0,
 // 1, 19.
-#[unsafe(no_mangle)]
-pub extern "C" fn embulgri_page_read(page: &[u8], out: &mut [u64; 6]) -> u32
+pub fn embulgri_page_read(page: &[u8], out: &mut [u64; 6]) -> u32
     ensures { PageIn page.now result out.old out.new }
 {
     let read = page_reader::read_page(page);
@@ -71,8 +69,7 @@ pub extern "C" fn embulgri_page_read(page: &[u8], out: &mut [u64; 6]) -> u32
 
 // Writes one page to the start of `out`. Into `written`: how many bytes it has. Returns 23, 22 or 0 (RULES.md, 3; embulgri.h).
 // Example: one lacing value of 1 and a body of 1 byte, with flags 4 and an `out` of 40 bytes, store 29 and return 0.
-#[unsafe(no_mangle)]
-pub extern "C" fn embulgri_page_write(
+pub fn embulgri_page_write(
     flags: u64,
     granule: u64,
     serial: u32,
@@ -127,8 +124,7 @@ fn packet_numbers(c: Contents) -> [u64; 4]
 // Reads one audio packet of so many streams. Into `out`: its length in samples at 48 kHz, and of its first Opus packet the
 // number of frames, whether it is stereo, and whether every frame is empty. Returns 13, 15, 16 or 0 (RULES.md, 6; embulgri.h).
 // Example: the one byte 0xfc and 1 stream store 960, 1, 1, 1.
-#[unsafe(no_mangle)]
-pub extern "C" fn embulgri_packet_read(packet: &[u8], streams: u64, out: &mut [u64; 4]) -> u32
+pub fn embulgri_packet_read(packet: &[u8], streams: u64, out: &mut [u64; 4]) -> u32
     ensures { PacketIn packet.now streams result out.old out.new }
 {
     let read = packet_reader::read_packet(packet, streams);
@@ -143,8 +139,7 @@ pub extern "C" fn embulgri_packet_read(packet: &[u8], streams: u64, out: &mut [u
 
 // Reads one comment header. Into `count`: the number of its comments. Returns 14 or 0 (RULES.md, 5; embulgri.h).
 // Example: a packet with the vendor "v" and the comments "a=1" and "b=2" stores 2.
-#[unsafe(no_mangle)]
-pub extern "C" fn embulgri_tags_read(packet: &[u8], count: &mut u64) -> u32
+pub fn embulgri_tags_read(packet: &[u8], count: &mut u64) -> u32
     ensures { TagsIn packet.now result count.old count.new }
 {
     let read = tags_reader::read_tags(packet);
@@ -172,8 +167,7 @@ fn store_part(found: PartRead, part: &mut [u64; 2]) -> u32
 
 // Finds the vendor of a comment header. Into `part`: where it starts in the packet, and how many bytes it has. Returns 14 or 0
 // (RULES.md, 5; embulgri.h). Example: a right packet with the vendor "v" stores 12 and 1.
-#[unsafe(no_mangle)]
-pub extern "C" fn embulgri_tags_vendor(packet: &[u8], part: &mut [u64; 2]) -> u32
+pub fn embulgri_tags_vendor(packet: &[u8], part: &mut [u64; 2]) -> u32
     ensures { VendorIn packet.now result part.old part.new }
 {
     store_part(tags_reader::find_vendor(packet), part)
@@ -182,8 +176,7 @@ pub extern "C" fn embulgri_tags_vendor(packet: &[u8], part: &mut [u64; 2]) -> u3
 // Finds comment i of a comment header, the first being 0. Into `part`: where it starts in the packet, and how many bytes it
 // has. Returns 14, 20 or 0 (RULES.md, 5; embulgri.h).
 // Example: with the vendor "v" and the comments "a=1" and "b=2", comment 1 stores 28 and 3, and comment 2 returns 20.
-#[unsafe(no_mangle)]
-pub extern "C" fn embulgri_tags_comment(packet: &[u8], i: u64, part: &mut [u64; 2]) -> u32
+pub fn embulgri_tags_comment(packet: &[u8], i: u64, part: &mut [u64; 2]) -> u32
     ensures { CommentIn packet.now i result part.old part.new }
 {
     store_part(tags_reader::find_comment(packet, i as usize), part)
@@ -191,8 +184,7 @@ pub extern "C" fn embulgri_tags_comment(packet: &[u8], i: u64, part: &mut [u64; 
 
 // Reads the gain in comment i of a comment header. Into `gain`: the gain in 16 bits. Returns 14, 20, 21 or 0 (RULES.md, 5;
 // embulgri.h). Example: the comment "b=2" stores 2, and the comment "R128_TRACK_GAIN=-573" stores 64963.
-#[unsafe(no_mangle)]
-pub extern "C" fn embulgri_tags_gain(packet: &[u8], i: u64, gain: &mut u64) -> u32
+pub fn embulgri_tags_gain(packet: &[u8], i: u64, gain: &mut u64) -> u32
     ensures { GainIn packet.now i result gain.old gain.new }
 {
     let read = tags_parts::gain(packet, i as usize);
@@ -207,8 +199,7 @@ pub extern "C" fn embulgri_tags_gain(packet: &[u8], i: u64, gain: &mut u64) -> u
 
 // Writes one comment header to the start of `out`. Into `written`: how many bytes it has. Returns 23, 22 or 0 (RULES.md, 5;
 // embulgri.h). Example: the vendor "v", the text "a=1b=2", the lengths 3 and 3, and an `out` of 31 bytes store 31.
-#[unsafe(no_mangle)]
-pub extern "C" fn embulgri_tags_write(
+pub fn embulgri_tags_write(
     vendor: &[u8],
     text: &[u8],
     lengths: &[u64],
@@ -230,8 +221,7 @@ pub extern "C" fn embulgri_tags_write(
 
 // Adds a packet's length in samples to the old clock: into `reading` the sum rounded, into `count` the exact one. Returns 30
 // or 0 (RULES.md, 10; embulgri.h). Example: 0.0 and 0 with 960 samples become 960.0 and 960.
-#[unsafe(no_mangle)]
-pub extern "C" fn embulgri_clock_add(reading: &mut f32, count: &mut u64, samples: u64) -> u32
+pub fn embulgri_clock_add(reading: &mut f32, count: &mut u64, samples: u64) -> u32
     ensures { ClockAfter (record { reading = reading.entry.now; count = count.old }) samples result
         (record { reading = reading.exit.now; count = count.new }) }
 {

@@ -8,8 +8,7 @@ use list_headers::HeadersWritten;
 
 // The line above all packets, from place `at` of `out` on: it returns the place after it, or `at` where it does not fit
 // (embulgri.h). Example: with at 0 and an `out` of 20 bytes or more it returns 20.
-#[unsafe(no_mangle)]
-pub extern "C" fn embulgri_list_first(out: &mut [u8], at: u64) -> u64
+pub fn embulgri_list_first(out: &mut [u8], at: u64) -> u64
     ensures { Put out.old at first_line result out.new }
 {
     list_lines::put_first(out, at as usize) as u64
@@ -17,8 +16,7 @@ pub extern "C" fn embulgri_list_first(out: &mut [u8], at: u64) -> u64
 
 // The line of the totals of a reader, from place `at` of `out` on: it returns the place after it, or `at` where it does not
 // fit (embulgri.h). Example: of sixteen zeros it puts "total kept=0 skipped=0 trimmed=0 hole=0" and a line feed.
-#[unsafe(no_mangle)]
-pub extern "C" fn embulgri_list_total(state: &[u64; 16], out: &mut [u8], at: u64) -> u64
+pub fn embulgri_list_total(state: &[u64; 16], out: &mut [u8], at: u64) -> u64
     ensures { Put out.old at (state_total state.now) result out.new }
 {
     let s = *state;
@@ -27,8 +25,7 @@ pub extern "C" fn embulgri_list_total(state: &[u64; 16], out: &mut [u8], at: u64
 
 // The line of a refusal, from place `at` of `out` on: it returns the place after it, or `at` where it does not fit
 // (embulgri.h). Example: number 4 and page 2 put "refused 4 page 2" and a line feed.
-#[unsafe(no_mangle)]
-pub extern "C" fn embulgri_list_refused(number: u64, page: u64, out: &mut [u8], at: u64) -> u64
+pub fn embulgri_list_refused(number: u64, page: u64, out: &mut [u8], at: u64) -> u64
     ensures { Put out.old at (refused_line number page) result out.new }
 {
     list_lines::put_refused(out, at as usize, number, page) as u64
@@ -36,8 +33,7 @@ pub extern "C" fn embulgri_list_refused(number: u64, page: u64, out: &mut [u8], 
 
 // The lines of packets, from place `at` of `out` on, as long as the longest line would fit. Into `put`: how many lines, and the
 // place after them (embulgri.h). Example: the end 960, the length 960, 1 frame and 648 kept put "960 960 1 648" and a line feed.
-#[unsafe(no_mangle)]
-pub extern "C" fn embulgri_list_entries(
+pub fn embulgri_list_entries(
     ends: &[u64],
     lengths: &[u64],
     frames: &[u64],
@@ -56,13 +52,7 @@ pub extern "C" fn embulgri_list_entries(
 // All lines that show an identification header and a comment header, at the start of `out`. Into `written`: how many bytes they
 // have. Returns 12, 13, 14, 22 or 0 (embulgri.h).
 // Example: the two headers of a recording store the number of bytes that `embulgri tags` prints of it.
-#[unsafe(no_mangle)]
-pub extern "C" fn embulgri_header_lines(
-    head: &[u8],
-    tags: &[u8],
-    out: &mut [u8],
-    written: &mut u64,
-) -> u32
+pub fn embulgri_header_lines(head: &[u8], tags: &[u8], out: &mut [u8], written: &mut u64) -> u32
     ensures { HeaderLines head.now tags.now result
         out.old out.new written.old written.new }
 {

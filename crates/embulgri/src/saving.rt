@@ -11,8 +11,7 @@ use salvage::Salvaged;
 // else 22 where the output or a list is too short; or 0. A refusal changes the work list alone, and what that holds at the end
 // is free (RULES.md, 16; embulgri.h).
 // Example: the bytes of a whole stream, with as much room, return 0 and store their number and 0.
-#[unsafe(no_mangle)]
-pub extern "C" fn embulgri_salvage(
+pub fn embulgri_salvage(
     bytes: &[u8],
     work: &mut [u64],
     out: &mut [u8],
@@ -34,14 +33,7 @@ pub extern "C" fn embulgri_salvage(
 
 // The line of something that salvage skipped or changed, from place `at` of `out` on: it returns the place after it, or `at`
 // where it does not fit (embulgri.h). Example: 3, 5123 and 255 put "cut 5123 255" and a line feed.
-#[unsafe(no_mangle)]
-pub extern "C" fn embulgri_salvage_line(
-    what: u64,
-    place: u64,
-    bytes: u64,
-    out: &mut [u8],
-    at: u64,
-) -> u64
+pub fn embulgri_salvage_line(what: u64, place: u64, bytes: u64, out: &mut [u8], at: u64) -> u64
     ensures { Put out.old at (change_line what place bytes) result out.new }
 {
     salvage_lines::put_change(out, at as usize, what, place, bytes) as u64

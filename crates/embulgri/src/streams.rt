@@ -13,8 +13,7 @@ use refusal::Refusal;
 // Returns the number of that refusal, 2 to 18; else 24 where the comment header is not complete, and then, as under 0, nothing is
 // stored (RULES.md, 15; embulgri.h).
 // Example: no bytes return 24; the pages of a whole stream return 0, and without the last byte 3 and the number of its last page.
-#[unsafe(no_mangle)]
-pub extern "C" fn embulgri_judge(stream: &[u8], page: &mut u64) -> u32
+pub fn embulgri_judge(stream: &[u8], page: &mut u64) -> u32
     ensures { JudgedIn (judge_buffer (readings page_crc) stream.now) result page.old page.new }
 {
     match recording::judge(stream) {
@@ -33,8 +32,7 @@ pub extern "C" fn embulgri_judge(stream: &[u8], page: &mut u64) -> u32
 // Returns the least place at or after `from` at which a whole page with a right checksum starts, or the number of the bytes where
 // there is none (RULES.md, 16; embulgri.h). It stores nothing and refuses nothing.
 // Example: of one byte and a right page of 27 bytes after it, `from` 0 returns 1, and `from` 2 returns 28.
-#[unsafe(no_mangle)]
-pub extern "C" fn embulgri_next_page(bytes: &[u8], from: u64) -> u64
+pub fn embulgri_next_page(bytes: &[u8], from: u64) -> u64
     ensures { result ≡ next_page page_crc bytes.now from }
 {
     salvage_search::next_page(bytes, from as usize) as u64
