@@ -1,4 +1,6 @@
 // What the programs do with the buffer of their input.
+#![tactic(auto)]
+
 ghost use Rattle.buffers.specs.Moves.{MovedDown};
 
 // Moves the bytes from place `from` up to `to`, or to the buffer's end, to the buffer's start, and gives how many they are.

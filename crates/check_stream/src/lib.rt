@@ -1,4 +1,6 @@
 // Checking a stream in a lent buffer for what its writer was advised against (RULES.md, 18).
+#![tactic(auto)]
+
 ghost use Rattle.std.specs.Prelude.{◌+◌, ◌<◌, ◌^◌, ◌≡◌, set, length};
 ghost use Rattle.page_crc.specs.Crc.{page_crc};
 ghost use Rattle.stream.specs.Readings.{readings};

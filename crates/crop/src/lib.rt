@@ -1,4 +1,6 @@
 // Cropping a stream in a lent buffer to a lent output (RULES.md, 17).
+#![tactic(auto)]
+
 ghost use Rattle.std.specs.Prelude.{◌+◌, ◌-◌, ◌≤◌, ◌≡◌, length};
 ghost use Rattle.octets.specs.Octets.{copied};
 ghost use Rattle.page_crc.specs.Crc.{page_crc};

@@ -1,4 +1,6 @@
 // One page of a crop (RULES.md, 17): whether a crop may begin at it, and the page renumbered.
+#![tactic(auto)]
+
 ghost use Rattle.std.specs.Prelude.{◌≡◌};
 ghost use Rattle.stream.specs.Page.{page_of};
 ghost use Rattle.crop_rules.specs.Crop.{may_begin};

@@ -1,4 +1,6 @@
 // The page at which a crop begins, found by a position (RULES.md, 17).
+#![tactic(auto)]
+
 ghost use Rattle.std.specs.Prelude.{◌+◌, ◌≤◌, ◌≡◌, true, length};
 ghost use Rattle.std.proofs.Math.Option.{none};
 ghost use Rattle.octets.specs.Pick.{pick};

@@ -1,1 +1,2 @@
 // No code: the demands, in `specs/Demands.antt`.
+#![tactic(auto)]

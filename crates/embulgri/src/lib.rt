@@ -4,6 +4,8 @@
 // embulgri_page_end, embulgri_next_page, embulgri_index_count and those that put lines of a listing or an index, which refuse
 // nothing; the carry buffer of embulgri_feed; the outputs of embulgri_feed_pages and embulgri_header_lines; the page of
 // embulgri_judge and the place of embulgri_index_seek (RULES.md, 15).
+#![tactic(auto)]
+
 ghost use Rattle.std.specs.Prelude.{◌≡◌};
 ghost use Rattle.page_crc.specs.Crc.{crc};
 ghost use Rattle.tags_layout.specs.Finding.{told_part};

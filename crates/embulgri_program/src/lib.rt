@@ -1,5 +1,7 @@
 // For the program `embulgri` alone, in a library of its own: feeding has one caller here, and is compiled into the loop over the
 // pages. The library `embulgri` has two callers of it, and so the loop calls it for each page.
+#![tactic(auto)]
+
 ghost use Rattle.stream.specs.Lent.{at_entry, at_exit};
 ghost use Rattle.feed_pages.specs.State.{run_from};
 ghost use Rattle.embulgri.specs.Feeding.{PagesIn};

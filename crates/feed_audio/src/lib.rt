@@ -1,5 +1,7 @@
 // One audio page of an Ogg Opus stream, fed to a reader that expects it: refusals 9, 11 and 15 to 19, the lists, the carry
 // buffer and the reader that follows.
+#![tactic(auto)]
+
 ghost use Rattle.std.specs.Prelude.{◌≡◌, not, ◌&&◌, List, ℕ, ◌≤◌, length};
 ghost use Rattle.octets.specs.Octets.{Bytes};
 ghost use Rattle.stream.specs.Page.{page_with};

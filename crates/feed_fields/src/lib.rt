@@ -1,4 +1,6 @@
 // The checks of a page's fields against what a reader expects (RULES.md, refusals 5 to 8).
+#![tactic(auto)]
+
 ghost use Rattle.std.specs.Prelude.{◌≡◌, not, ◌&&◌, ◌||◌, [], ◌∷◌};
 ghost use Rattle.std.specs.Bool.{beq};
 ghost use Rattle.octets.specs.Octets.{Bytes};

@@ -1,5 +1,7 @@
 // One page of the two headers of an Ogg Opus stream, fed to a reader that expects it: refusals 9 to 14, the carry buffer and
 // the reader that follows.
+#![tactic(auto)]
+
 ghost use Rattle.std.specs.Prelude.{◌≡◌, ℕ};
 ghost use Rattle.octets.specs.Octets.{Bytes};
 ghost use Rattle.stream.specs.Lent.{Lent, with_carry};

@@ -1,4 +1,6 @@
 // 9, and the shape that 10 asks of a header page, by the lacing values of a page.
+#![tactic(auto)]
+
 ghost use Rattle.std.specs.Prelude.{◌≡◌, true, ◌≤◌, length, drop};
 ghost use Rattle.octets.specs.Octets.{Bytes};
 ghost use Rattle.stream.specs.Packets.{is_long};

@@ -1,4 +1,6 @@
 // The memory that is lent to a feeding: its room, and the held packet in the carry buffer.
+#![tactic(auto)]
+
 ghost use Rattle.std.specs.Prelude.{◌≡◌};
 ghost use Rattle.stream.specs.Feed.{carried_in, appended};
 ghost use Rattle.stream.specs.Lent.{short_carry, short_lists, short_by};

@@ -1,4 +1,6 @@
 // What follows an accepted page: the core that expects the next one, the totals, and the record of a page that lists nothing.
+#![tactic(auto)]
+
 ghost use Rattle.std.specs.Prelude.{◌≡◌};
 ghost use Rattle.stream.specs.Feed.{no_counts, tally_after};
 ghost use Rattle.feed_next.specs.Next.{core_after};

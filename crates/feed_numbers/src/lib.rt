@@ -1,4 +1,6 @@
 // A reader's core and tally as sixteen numbers, and back.
+#![tactic(auto)]
+
 ghost use Rattle.std.specs.Prelude.{◌≡◌, ◌%◌};
 ghost use Rattle.stream.specs.Feed.{reader_of};
 ghost use Rattle.feed_numbers.specs.Numbers.{phase_number, pending_number, position_number, granule_in, StandFor};

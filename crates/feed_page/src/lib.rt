@@ -1,4 +1,6 @@
 // Feeding one page to the core of a reader, in stages: 1 and 2, 3 to 8, and what header pages and audio pages have of their own.
+#![tactic(auto)]
+
 ghost use Rattle.std.specs.Prelude.{◌≡◌, ℕ};
 ghost use Rattle.std.proofs.Math.Option.{some};
 ghost use Rattle.octets.specs.Octets.{Bytes};

@@ -1,4 +1,6 @@
 // The pages of a lent buffer fed to a reader in one call, each where it lies. The checksum's tables are made once.
+#![tactic(auto)]
+
 ghost use Rattle.std.specs.Prelude.{◌≡◌};
 ghost use Rattle.page_crc.specs.Crc.{page_crc};
 ghost use Rattle.page_crc_tables.specs.Table.{entry_in};

@@ -1,4 +1,6 @@
 // What feeding tells of the bytes that the end of an input cuts off inside a page. A program that asks here need not feed them.
+#![tactic(auto)]
+
 ghost use Rattle.std.specs.Prelude.{◌≡◌};
 ghost use Rattle.reader.specs.Answers.{known_as};
 ghost use Rattle.feed_partial.specs.Rest.{rest_refusal};

@@ -1,5 +1,7 @@
 // How far a stream has come: whether no page was accepted yet, a header is due, an audio page is due, or the last page was
 // marked last.
+#![tactic(auto)]
+
 ghost use Rattle.std.specs.Prelude.{◌≡◌};
 ghost use Rattle.stream.specs.State.{is_first, in_headers, is_audio, is_ended};
 

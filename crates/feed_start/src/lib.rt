@@ -1,4 +1,6 @@
 // The core and tally that a reader of a stream begins with: of a stream's first page, or opened part way.
+#![tactic(auto)]
+
 ghost use Rattle.std.specs.Prelude.{◌≡◌};
 ghost use Rattle.stream.specs.Feed.{no_tally, start, open_part_way};
 ghost use Rattle.feed_start.specs.Answers.{told_opened};

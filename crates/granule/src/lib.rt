@@ -1,4 +1,6 @@
 // "Stamps and cuts" of an Ogg Opus stream (RFC 7845, 4) as arithmetic on one page.
+#![tactic(auto)]
+
 ghost use Rattle.std.specs.Prelude.{◌≡◌, ◌-◌, min};
 ghost use Rattle.granule.specs.Samples.{kept_of};
 ghost use Rattle.granule.specs.Judging.{granule_wrong, told_judged, judge as judged};

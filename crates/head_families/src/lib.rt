@@ -1,4 +1,6 @@
 // The channel mapping families of an identification header (RFC 7845, 5.1.1; RFC 8486, 3).
+#![tactic(auto)]
+
 ghost use Rattle.std.specs.Prelude.{◌≡◌};
 ghost use Rattle.head_families.specs.Families.{ambisonic_channels, allowed_channels};
 ghost use Rattle.head_families.specs.Families.{has_counts, has_matrix, IndexCount, matrix_length};

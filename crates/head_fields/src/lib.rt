@@ -1,4 +1,6 @@
 // The fields of an identification header (RFC 7845, 5.1; RFC 8486, 3), and when they are right.
+#![tactic(auto)]
+
 ghost use Rattle.std.specs.Prelude.{◌≡◌};
 ghost use Rattle.head_fields.specs.Right.{right_streams, right_indices, all_zero};
 ghost use Rattle.head_fields.specs.Right.{readable_version, writable_version, right_length};

@@ -1,6 +1,8 @@
 // The lines that show an identification header. Each public function puts one whole line, but for `put_entry`, which puts a
 // part of one, into a lent buffer from place `at` on, and answers the place after it. Where that does not fit, it puts nothing
 // and answers `at`.
+#![tactic(auto)]
+
 ghost use Rattle.std.specs.Prelude.{◌++◌, ◌+◌, ◌≤◌, length};
 ghost use Rattle.text_put.specs.Marks.{space};
 ghost use Rattle.text_put.specs.Writing.{Put, Laid};

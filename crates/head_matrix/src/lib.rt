@@ -1,5 +1,7 @@
 // The matrix of an identification header of family 3 (RFC 8486, 3.2): how long it is, its bytes, and its entries. Nothing is
 // copied.
+#![tactic(auto)]
+
 ghost use Rattle.std.specs.Prelude.{◌≡◌};
 ghost use Rattle.head_reader.specs.Reading.{read_matrix};
 ghost use Rattle.head_matrix.specs.Matrix.{read_size, told_size, matrix_in, entry_at, read_entry, told_entry};

@@ -1,5 +1,7 @@
 // The fields of an identification header as eight numbers and the 255 places of its mapping, and where its matrix lies, for
 // callers in other languages.
+#![tactic(auto)]
+
 ghost use Rattle.std.specs.Prelude.{◌≡◌};
 ghost use Rattle.head_numbers.specs.Numbers.{head_numbers, fitting, head_from, matrix_numbers};
 

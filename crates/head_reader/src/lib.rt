@@ -1,4 +1,6 @@
 // Reading the identification header of an Ogg Opus stream (RFC 7845, 5.1; RFC 8486, 3).
+#![tactic(auto)]
+
 ghost use Rattle.std.specs.Prelude.{◌≡◌};
 ghost use Rattle.head_reader.specs.Fields.{streams_of, coupled_of, indices_of, places, head_of};
 ghost use Rattle.head_reader.specs.Reading.{length_of, is_head, WasRefused, HeadIs};

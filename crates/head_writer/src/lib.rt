@@ -1,4 +1,6 @@
 // Writing the identification header of an Ogg Opus stream (RFC 7845, 5.1; RFC 8486, 3).
+#![tactic(auto)]
+
 ghost use Rattle.std.specs.Prelude.{◌≡◌};
 ghost use Rattle.octets.specs.Octets.{copied};
 ghost use Rattle.head_writer.specs.Writing.{start_of, head_bytes, HeadFits, Wrote};

@@ -1,6 +1,8 @@
 // An index as three lent lists in place of a slice of records (RULES.md, 15): the granule positions, the places and the sequence
 // numbers. Lists of equal lengths stand for the index whose records have their fields there, and each call answers as it does on
 // the records (`index_records`). Seeking looks at the granule positions alone.
+#![tactic(auto)]
+
 ghost use Rattle.std.specs.Prelude.{◌≡◌, get_or, set};
 ghost use Rattle.index_search.specs.Index.{first_fall, seek_in};
 ghost use Rattle.index_search.specs.Search.{finish};

@@ -1,5 +1,7 @@
 // Building the index of a stream in a lent buffer into three lent lists (RULES.md, 15): the granule positions, the places and the
 // sequence numbers of its records. It answers as `index_builder::build` does on records.
+#![tactic(auto)]
+
 ghost use Rattle.std.specs.Prelude.{◌+◌, ◌≤◌, ◌≡◌, length};
 ghost use Rattle.page_crc.specs.Crc.{page_crc};
 ghost use Rattle.stream.specs.Readings.{readings};

@@ -1,6 +1,8 @@
 // The lines of an index of a stream, and of what a seek in it answers, as text (RULES.md, 15). Each function but `put_records`
 // puts one whole line into a lent buffer from place `at` on, and answers the place after it. Where the line does not fit, it
 // puts nothing and answers `at`.
+#![tactic(auto)]
+
 ghost use Rattle.std.specs.Prelude.{◌≡◌, ◌++◌, ◌∷◌, [], ◌+◌, ltb, length};
 ghost use Rattle.text_put.specs.Writing.{Put};
 ghost use Rattle.text_decimal.specs.Decimal.{decimal};

@@ -1,5 +1,7 @@
 // Seeking in an index of a stream (RULES.md, 15; RFC 7845, 4.6), on plain numbers: a search says which place it looks at next,
 // and is told the granule position there. So it serves every layout of an index.
+#![tactic(auto)]
+
 ghost use Rattle.std.specs.Prelude.{◌≡◌, ◌-◌, ◌<◌};
 ghost use Rattle.index_search.specs.Search.{one_more, place_of, scanned, halved, step_of, scanning_of, fall_of};
 ghost use Rattle.index_search.specs.Search.{halving_by, halving_of, answer_of};

@@ -1,5 +1,7 @@
 // A walk over the pages of a stream in a lent buffer that makes the records of its index (RULES.md, 15), by the headers and the
 // lacing values of the pages alone: no checksum is made and no packet is looked at.
+#![tactic(auto)]
+
 ghost use Rattle.std.specs.Prelude.{◌≡◌, length};
 ghost use Rattle.recording.specs.Pages.{pages_of};
 ghost use Rattle.index_walk.specs.Records.{index_of};

@@ -1,4 +1,5 @@
 // The bounds of the rules (RULES.md, 1). No code. Functions that ask for room or measure a packet compare with these.
+#![tactic(auto)]
 
 // The most bytes that a packet may have.
 pub const PACKET_MAX: usize = 61440;

@@ -1,6 +1,8 @@
 // The listing of an Ogg Opus recording: standard input to one line a packet, `end dur frames kept`, and a last line, the total
 // or the refusal that ended it. Pages are fed where they lie in the buffer. Places are cut to their buffers' lengths, so that no
 // function has to know what another left.
+#![tactic(auto)]
+
 use feed_pages::Stop;
 use limits::PACKET_MAX;
 use reader::Reader;

@@ -1,6 +1,8 @@
 // The lines of several packets of a listing, put into a lent buffer in one call. The end stamps of packets that follow each
 // other have all but a few digits in common, and nearly all packets of a recording have one length and as many frames. So
 // the bytes of a line are kept for the next one, and only the last four digits of its stamp are new.
+#![tactic(auto)]
+
 ghost use Rattle.std.specs.Prelude.{◌≡◌, ◌+◌, ◌-◌, ◌≤◌, ltb, length};
 ghost use Rattle.text_put.specs.Writing.{Laid};
 ghost use Rattle.list_lines.specs.Lines.{entry_line, longest};

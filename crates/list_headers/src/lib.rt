@@ -1,4 +1,6 @@
 // The lines of both headers of a stream, put into a lent buffer one after the other.
+#![tactic(auto)]
+
 ghost use Rattle.std.specs.Prelude.{◌≡◌};
 ghost use Rattle.text_pieces.specs.Pieces.{laying, lay_all, laid, begun};
 ghost use Rattle.head_lines.specs.Lines.{number_line};

@@ -1,5 +1,7 @@
 // The lines of a listing, as text. Each function puts one whole line into a lent buffer from place `at` on, and answers the
 // place after it. Where the line does not fit, it puts nothing and answers `at`.
+#![tactic(auto)]
+
 ghost use Rattle.std.specs.Prelude.{◌≡◌, ◌++◌, ◌+◌, ltb, length};
 ghost use Rattle.text_put.specs.Writing.{Put, Laid};
 ghost use Rattle.list_lines.specs.Lines.{first_line, entry_line, total_line, refused_line, named, HasNamed, HasPair};

@@ -1,4 +1,6 @@
 // Numbers in bytes, lowest byte first (RULES.md, 3); bytes past the end are zero.
+#![tactic(auto)]
+
 ghost use Rattle.std.specs.Prelude.{◌≡◌, ◌≤◌};
 ghost use Rattle.octets.specs.Numbers.{number};
 ghost use Rattle.number_reader.specs.Reading.{NumberRead};

@@ -1,4 +1,6 @@
 // Numbers written into a lent buffer, lowest byte first (RULES.md, 3). What does not fit is not written.
+#![tactic(auto)]
+
 ghost use Rattle.std.specs.Prelude.{◌≡◌, ◌≤◌};
 ghost use Rattle.octets.specs.Octets.{copied};
 ghost use Rattle.octets.specs.Numbers.{octets};

@@ -1,5 +1,7 @@
 // Bytes in lent buffers: one byte, parts, and copies. Every function is total: what is read past the end of a buffer is
 // zero, and what does not fit into one is not written.
+#![tactic(auto)]
+
 ghost use Rattle.std.specs.Prelude.{◌≡◌, ◌+◌, min, ltb, get_or, take, drop};
 ghost use Rattle.octets.specs.Octets.{Widened, begins, copied};
 

@@ -1,4 +1,6 @@
 // The old clock, kept to explain the old logs: their count of samples was an f32. The exact count is kept with it.
+#![tactic(auto)]
+
 ghost use Rattle.std.specs.Prelude.{◌≡◌};
 ghost use Rattle.old_clock.specs.Clock.{start_clock, right_length, add_samples, told_added};
 

@@ -1,4 +1,6 @@
 // One Opus packet (RFC 6716, 3 and Appendix B): how its frames lie in it, how many they are, and whether all are empty.
+#![tactic(auto)]
+
 ghost use Rattle.std.specs.Prelude.{true, false, length, drop};
 ghost use Rattle.packet_frames.specs.Frames.{frame_max, coded, coded_times};
 ghost use Rattle.packet_frames.specs.Packet.{parse};

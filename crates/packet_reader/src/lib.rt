@@ -1,4 +1,6 @@
 // Audio packets of one or more streams (RFC 7845, 3; RFC 6716, 3 and Appendix B): what they are made of.
+#![tactic(auto)]
+
 ghost use Rattle.std.specs.Prelude.{◌≡◌, ◌-◌, ◌≤◌};
 ghost use Rattle.packet_frames.specs.Packet.{parse};
 ghost use Rattle.packet_reader.specs.Streams.{measured_of, read_packet, told_packet, is_single};

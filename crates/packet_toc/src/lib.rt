@@ -1,4 +1,6 @@
 // The first byte of an Opus packet (RFC 6716, 3.1): the samples of a frame, and whether it is stereo.
+#![tactic(auto)]
+
 ghost use Rattle.std.specs.Prelude.{◌≡◌};
 ghost use Rattle.packet_toc.specs.Toc.{frame_samples, is_stereo};
 

@@ -3,6 +3,8 @@
 // The functions whose names end in `_with` take the tables from the caller, who makes them once by
 // `page_crc_tables::table::tables`. The others make them at each call. For short inputs they make tables of half bytes, which
 // take longer to use but less to store.
+#![tactic(auto)]
+
 ghost use Rattle.std.specs.Prelude.{◌≡◌, ◌+◌, ◌≤◌, ◌<◌, length, take, drop};
 ghost use Rattle.page_crc_tables.specs.Table.{entry_in, half_entry_in};
 ghost use Rattle.page_crc.specs.Crc.{checksum_end, crc, page_crc};

@@ -1,4 +1,6 @@
 // Where the page that starts at a place of a buffer ends, for callers who feed the pages of a buffer one by one.
+#![tactic(auto)]
+
 ghost use Rattle.std.specs.Prelude.{◌≡◌};
 ghost use Rattle.page_end.specs.End.{end_at, found_end};
 

@@ -1,4 +1,6 @@
 // The three marks in the flags of a page: continued, first and last.
+#![tactic(auto)]
+
 ghost use Rattle.std.specs.Prelude.{◌≡◌};
 ghost use Rattle.page_flags.specs.Flags.{is_continued, is_first_page, is_last_page};
 

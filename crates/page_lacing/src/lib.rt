@@ -1,4 +1,6 @@
 // Lacing values: 255 goes on, a smaller one ends a packet.
+#![tactic(auto)]
+
 ghost use Rattle.std.specs.Prelude.{◌≡◌};
 ghost use Rattle.page_lacing.specs.Lacing.{Summed, is_body};
 

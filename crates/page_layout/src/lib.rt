@@ -1,5 +1,7 @@
 // The parts of an Ogg page by their places (RFC 3533, 6): its fields, its lacing values, its body. These places are here
 // and in specs/Places.antt, and everything else cites them.
+#![tactic(auto)]
+
 ghost use Rattle.std.specs.Prelude.{◌≡◌};
 ghost use Rattle.octets.specs.Octets.{Widened};
 ghost use Rattle.page_layout.specs.Page.{has_capture, header_of, count_of, lacing_of, body_of};

@@ -1,4 +1,6 @@
 // The pieces of packets on a page, by its lacing values: 255 goes on, a smaller one ends a packet.
+#![tactic(auto)]
+
 ghost use Rattle.page_pieces.specs.Pieces.{PiecesAre};
 
 // How many packets end, the length of each in bytes, and how many bytes are left of a packet that goes on. Places of

@@ -1,4 +1,6 @@
 // Reading an Ogg page (RFC 3533): its shape, its checksum, its fields.
+#![tactic(auto)]
+
 ghost use Rattle.std.specs.Prelude.{◌≡◌};
 ghost use Rattle.page_crc.specs.Crc.{page_crc};
 ghost use Rattle.page_crc_tables.specs.Table.{entry_in};

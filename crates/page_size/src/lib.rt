@@ -1,4 +1,6 @@
 // How long an Ogg page is by its lacing values (RFC 3533, 6): where one would end, and whether bytes are exactly one.
+#![tactic(auto)]
+
 ghost use Rattle.std.specs.Prelude.{◌≡◌, ◌<◌, ◌^◌};
 ghost use Rattle.page_size.specs.Size.{Sized, is_one_page};
 ghost use Rattle.page_size.specs.Extent.{extent_in, page_extent, told_extent};

@@ -1,4 +1,6 @@
 // Writing an Ogg page (RFC 3533), and computing the checksum of a page again.
+#![tactic(auto)]
+
 ghost use Rattle.std.specs.Prelude.{◌≡◌, ◌≤◌, length};
 ghost use Rattle.octets.specs.Octets.{copied};
 ghost use Rattle.page_writer.specs.Writing.{with_checksum, start_of, page_bytes, page_size, Wrote, WroteAny};

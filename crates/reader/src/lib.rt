@@ -1,4 +1,6 @@
 // A reader of one Opus stream: starting, opening part way, and feeding one page at a time.
+#![tactic(auto)]
+
 ghost use Rattle.std.specs.Prelude.{◌≡◌};
 ghost use Rattle.stream.specs.State.{in_headers, is_ended};
 ghost use Rattle.page_crc.specs.Crc.{page_crc};

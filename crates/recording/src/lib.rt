@@ -1,4 +1,6 @@
 // A stream in a lent buffer: judged by feeding its pages, each where it lies, to a reader just started (RULES.md, 15).
+#![tactic(auto)]
+
 ghost use Rattle.std.specs.Prelude.{◌≡◌, false};
 ghost use Rattle.page_crc.specs.Crc.{page_crc};
 ghost use Rattle.stream.specs.Readings.{readings};

@@ -1,4 +1,6 @@
 // The pages of a stream in a lent buffer, by their places (RULES.md, 15): no checksum is made and no packet is looked at.
+#![tactic(auto)]
+
 ghost use Rattle.std.specs.Prelude.{◌≡◌};
 ghost use Rattle.recording.specs.Pages.{pages_of};
 ghost use Rattle.stream.specs.Page.{ends};

@@ -1,4 +1,6 @@
 // The refusals of the whole library, by name. RULES.md, 2, has the exact occasion of each.
+#![tactic(auto)]
+
 ghost use Rattle.std.specs.Prelude.{◌≡◌};
 ghost use Rattle.refusal.specs.Numbers.{number_of};
 

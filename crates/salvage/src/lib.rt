@@ -1,5 +1,7 @@
 // Salvage of a stream from damaged bytes (RULES.md, 16): its good pages are kept, renumbered and written to a lent buffer, and
 // what was skipped and changed is told in three lent lists.
+#![tactic(auto)]
+
 ghost use Rattle.std.specs.Prelude.{◌≡◌};
 ghost use Rattle.octets.specs.Octets.{copied};
 ghost use Rattle.salvage_feed.specs.Feeding.{tidied_bytes};

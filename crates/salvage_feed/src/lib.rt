@@ -1,4 +1,6 @@
 // Feeding a page of the input to the core of a reader as it is tidied, by its parts: no checksum is worked out.
+#![tactic(auto)]
+
 ghost use Rattle.std.specs.Prelude.{◌≡◌, true, false};
 ghost use Rattle.page_crc.specs.Crc.{page_crc};
 ghost use Rattle.page_reader.specs.Reading.{read_page};

@@ -2,6 +2,8 @@
 //
 // Each page is fed as it comes out, to a reader just started. One that is refused goes missing. Where that changes how the packet
 // before it ends, the pass goes back to a saved point, from which no page before it comes out in another way.
+#![tactic(auto)]
+
 ghost use Rattle.std.specs.Prelude.{◌≡◌, ℕ, ◌+◌, ◌^◌, ◌<◌, not, ◌&&◌, List, length, take};
 ghost use Rattle.octets.specs.Pick.{pick};
 ghost use Rattle.stream.specs.State.{in_headers};

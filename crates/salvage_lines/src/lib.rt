@@ -1,4 +1,6 @@
 // The lines that tell what salvage skipped and changed, as text (RULES.md, 16).
+#![tactic(auto)]
+
 ghost use Rattle.std.specs.Prelude.{◌++◌};
 ghost use Rattle.text_put.specs.Writing.{Put};
 ghost use Rattle.text_decimal.specs.Decimal.{decimal};

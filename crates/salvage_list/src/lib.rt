@@ -1,5 +1,7 @@
 // The list of the pages of a salvage as places of the buffer in a lent list (RULES.md, 16): where a page counts as missing, its
 // place is a number that is no place.
+#![tactic(auto)]
+
 ghost use Rattle.std.specs.Prelude.{suc, ◌+◌, ◌<◌, ◌^◌, ◌≡◌, get_or, drop, set};
 ghost use Rattle.page_crc.specs.Crc.{page_crc};
 ghost use Rattle.page_crc.specs.Sliced.{page_sliced};

@@ -1,4 +1,6 @@
 // One page of salvage: what joins it to its neighbours, which of its pieces are removed, and the page without them.
+#![tactic(auto)]
+
 ghost use Rattle.std.specs.Prelude.{◌≡◌, ◌-◌, not, ◌&&◌};
 ghost use Rattle.octets.specs.Pick.{pick};
 ghost use Rattle.page_lacing.specs.Lacing.{unfinished};

@@ -1,4 +1,6 @@
 // Where the next page starts in a buffer of which some bytes may be damaged (RULES.md, 16).
+#![tactic(auto)]
+
 ghost use Rattle.std.specs.Prelude.{◌≡◌, ◌<◌, length, drop};
 ghost use Rattle.page_crc.specs.Crc.{page_crc};
 ghost use Rattle.page_crc_tables.specs.Table.{entry_in};

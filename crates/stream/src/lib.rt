@@ -1,5 +1,7 @@
 // What a reader of a stream is made of, and what it tells of a page. No code: the rules are in `specs/`, and the code that
 // follows them is in the crates that use this one.
+#![tactic(auto)]
+
 use granule::Position;
 use refusal::Refusal;
 

@@ -1,5 +1,7 @@
 // A stream that is fed in parts, each to a reader of its own: whether two readers agree, and the totals of the whole (RULES.md,
 // 19).
+#![tactic(auto)]
+
 ghost use Rattle.std.specs.Prelude.{◌≡◌};
 ghost use Rattle.stream_parts.specs.Agree.{equal_at, compared, equal_bytes, agreeing};
 ghost use Rattle.stream_parts.specs.Totals.{whole_total, totals_after};

@@ -2,6 +2,8 @@
 // each comment. Where a page of them is refused, the listing is one line with the refusal's number and the page's.
 //
 // Sums that could wrap only past the end of all memory are written as wrapping ones.
+#![tactic(auto)]
+
 use feeding::{Progress, Stage};
 use limits::PACKET_MAX;
 use std::io::{Error, Stderr, Stdin, Stdout, Write};

@@ -1,4 +1,6 @@
 // One comment of a comment header (RFC 7845, 5.2): its name, and the gain in its value.
+#![tactic(auto)]
+
 ghost use Rattle.std.specs.Prelude.{◌≡◌, true};
 ghost use Rattle.std.specs.Int.{w16};
 ghost use Rattle.std.proofs.Common.{to_z};

@@ -1,4 +1,6 @@
 // Where the parts of a comment header lie (RFC 7845, 5.2): each text after its length, by places in the packet.
+#![tactic(auto)]
+
 ghost use Rattle.std.specs.Prelude.{◌≡◌};
 ghost use Rattle.octets.specs.Numbers.{number};
 ghost use Rattle.tags_layout.specs.Layout.{vendor_place, fits_at, count_of, first_place};

@@ -1,5 +1,7 @@
 // The lines that show a comment header. Each public function puts one whole line into a lent buffer from place `at`
 // on, and answers the place after it. Where the line does not fit, it puts nothing and answers `at`.
+#![tactic(auto)]
+
 ghost use Rattle.std.specs.Prelude.{◌≡◌, ◌≤◌, length};
 ghost use Rattle.text_put.specs.Writing.{Put};
 ghost use Rattle.tags_lines.specs.Lines.{text_line, is_gain, end_most, EndLaid, comment_line};

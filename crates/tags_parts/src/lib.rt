@@ -1,4 +1,6 @@
 // The parts of a comment header (RFC 7845, 5.2): its vendor, a comment, and the gain in one. Nothing is copied.
+#![tactic(auto)]
+
 ghost use Rattle.std.specs.Prelude.{◌≡◌};
 ghost use Rattle.refusal.specs.Told.{number_in};
 ghost use Rattle.tags_comment.specs.Gain.{told_gain};

@@ -1,4 +1,6 @@
 // The comment header of an Ogg Opus stream (RFC 7845, 5.2): checking it, and where its vendor and each comment lie.
+#![tactic(auto)]
+
 ghost use Rattle.std.specs.Prelude.{◌≡◌};
 ghost use Rattle.refusal.specs.Told.{retold};
 ghost use Rattle.tags_layout.specs.Finding.{told_part};

@@ -1,4 +1,6 @@
 // Whether a comment header has a REPLAYGAIN tag (RFC 7845, 5.2.1; RULES.md, 18).
+#![tactic(auto)]
+
 ghost use Rattle.std.specs.Prelude.{◌≡◌, true};
 ghost use Rattle.tags_layout.specs.Layout.{all_fit, texts_from};
 ghost use Rattle.tags_replaygain.specs.ReplayGain.{is_replay_gain, any_replay_gain, has_replay_gain};

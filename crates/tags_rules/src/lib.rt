@@ -1,4 +1,6 @@
 // The comments of a comment header together (RFC 7845, 5.2 and 5.2.1): each is right, and neither gain is there twice.
+#![tactic(auto)]
+
 ghost use Rattle.std.specs.Prelude.{◌≡◌};
 ghost use Rattle.tags_comment.specs.Names.{is_named};
 ghost use Rattle.tags_rules.specs.Right.{track_gain, album_gain};

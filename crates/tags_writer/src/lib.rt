@@ -1,4 +1,6 @@
 // Writing the comment header of an Ogg Opus stream (RFC 7845, 5.2).
+#![tactic(auto)]
+
 ghost use Rattle.std.specs.Prelude.{◌≡◌};
 ghost use Rattle.octets.specs.Octets.{copied};
 ghost use Rattle.tags_reader.specs.Packet.{text_bytes};

@@ -1,5 +1,7 @@
 // A number in decimal digits. Each public function that puts some puts all of them into a lent buffer, or nothing where they
 // do not fit.
+#![tactic(auto)]
+
 ghost use Rattle.std.specs.Prelude.{◌≡◌, ◌++◌, ◌∷◌, [], ◌+◌, ◌≤◌, ◌<◌, ◌/◌, ◌%◌, ltb, length};
 ghost use Rattle.octets.specs.Octets.{copied};
 ghost use Rattle.octets.specs.Numbers.{octets};

@@ -1,4 +1,6 @@
 // A text made fit to be shown: nothing in it can control a terminal, and the escapes can be undone.
+#![tactic(auto)]
+
 ghost use Rattle.std.specs.Prelude.{◌≡◌, ◌&&◌, ◌+◌, ◌-◌, ◌≤◌, ◌<◌, leb, length, get_or, drop};
 ghost use Rattle.text_put.specs.Writing.{Put, Laid};
 ghost use Rattle.text_escape.specs.Hidden.{is_hidden};

@@ -1,5 +1,7 @@
 // Signed numbers and gains as text, each put into a lent buffer whole, or nothing where it does not fit. Each public function
 // answers the place after what it put.
+#![tactic(auto)]
+
 ghost use Rattle.std.specs.Prelude.{◌≡◌, ◌+◌, ◌≤◌, ◌<◌, length};
 ghost use Rattle.text_put.specs.Writing.{Put, Laid};
 ghost use Rattle.text_decimal.specs.Digits.{lowest};

@@ -1,5 +1,7 @@
 // Pieces of text put into a lent buffer one after the other, and whether all of them fitted: what a function that puts many
 // lines hands on from each to the next.
+#![tactic(auto)]
+
 ghost use Rattle.std.specs.Prelude.{◌≡◌};
 ghost use Rattle.text_pieces.specs.Pieces.{none, moved_to};
 

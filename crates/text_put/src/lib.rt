@@ -1,4 +1,6 @@
 // Bytes put whole into a lent buffer. The laws of this crate make a line of parts.
+#![tactic(auto)]
+
 ghost use Rattle.std.specs.Prelude.{◌++◌};
 ghost use Rattle.text_put.specs.Writing.{Put};
 

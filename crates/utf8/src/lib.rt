@@ -1,4 +1,6 @@
 // UTF-8 (RFC 3629).
+#![tactic(auto)]
+
 ghost use Rattle.std.specs.Prelude.{◌≡◌, ◌≤◌, ◌<◌, length, drop};
 ghost use Rattle.utf8.specs.Characters.{LengthTold, LengthTaken, lead_bits, tails_follow, number_with, least_of};
 ghost use Rattle.utf8.specs.Characters.{right_number, length_at, no_character, character_at, utf8};

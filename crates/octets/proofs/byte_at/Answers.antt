@@ -1,6 +1,5 @@
 -- `octets::byte_at` meets its contract: past the end `get_or` is its default. Assumes nothing.
 use mathlib.Core.Path.{sym}
-use borrow.Author.Rules.{rules}
 use lib.ListN.{get_or-eq_default}
 use Rattle.octets.proofs.byte_at.Goals as goal
 

@@ -1,13 +1,8 @@
 -- `octets::copy_at` meets its contract. The loop's invariant: the first j elements have been copied. Assumes nothing.
-use mathlib.Core.Path.{◌≡◌, sym, ap, ◌∙◌}
+use mathlib.Core.Path.{◌≡◌}
 use Prim.Native.Nat.{◌+◌, ◌-◌, ◌≤◌}
-use native.Mathlib.Numerals.{add-one}
-use native.Mathlib.Omega.{arith}
-use borrow.Author.Rules.{rules}
-use lib.ListN.{length, get_or, set}
-use lib.Seq.{paste, paste-zero, paste-suc, length-paste}
-use Rattle.octets.proofs.Tests.{is_below, not-below}
-use Rattle.octets.proofs.Copying.{copied-fits, copied-short}
+use lib.ListN.{length}
+use lib.Seq.{paste}
 use Rattle.octets.proofs.copy_at.Given as goal
 
 abbrev pub invariant-loop-j : goal.invariant-loop-j
