@@ -1,13 +1,13 @@
 -- One piece more, as the code's answers tell it, and pieces after others. Assumes nothing.
 use mathlib.Core.Path.{◌≡◌, refl, ap, ◌∙◌}
-use mathlib.Core.Bool.{Bool, true, false, ◌&&◌}
+use mathlib.Core.Bool.{Bool, true, false}
 use mathlib.Core.List.{List, [], ◌∷◌, ◌++◌}
-use Prim.Native.Nat.{ℕ, ◌+◌, ◌≤◌, ◌<◌}
+use Prim.Native.Nat.{ℕ, ◌+◌, ◌≤◌}
 use native.Mathlib.Omega.{arith}
-use borrow.Author.Tests.{lt-ltb, le-ltb, leb-true, leb-false}
+use borrow.Author.Tests.{lt-ltb, le-ltb}
 use lib.Dec.{leb, ltb}
 use lib.ListN.{length}
-use Rattle.octets.specs.Octets.{Bytes, copied}
+use Rattle.octets.specs.Octets.{Bytes}
 use Rattle.text_put.specs.Writing.{Put, place_after}
 use Rattle.text_pieces.specs.declared.Pieces.{Pieces}
 use Rattle.text_pieces.specs.Pieces.{Laying, laid, lay_all, moved_to, laying}

@@ -12,7 +12,7 @@ use Rattle.octets.specs.Octets.{Bytes, copied}
 use Rattle.octets.proofs.Copying.{copied-fits, length-copied, copied-append}
 use Rattle.text_put.specs.Writing.{place_after}
 use Rattle.text_pieces.specs.Pieces.{Laying, laid, lay_all, begun, joined}
-use Rattle.text_pieces.specs.Statements.{AllFit, TextLaid, WholeText}
+use Rattle.text_pieces.specs.Statements.{AllFit, WholeText}
 
 length-laid : (l : Laying) (s : Bytes) → length (laid l s).buffer ≡ length l.buffer
 unfolding laid

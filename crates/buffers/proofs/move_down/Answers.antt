@@ -1,9 +1,8 @@
 -- `buffers::move_down` meets its contract: a byte goes to no place above its own. Assumes nothing.
-use Prim.Native.Nat.{◌-◌, ◌≤◌}
+use Prim.Native.Nat.{◌≤◌}
 use native.Mathlib.Omega.{arith}
-use borrow.Author.Rules.{rules}
 use lib.ListN.{length}
-use Rattle.buffers.proofs.Moving.{Moving, moving_starts, moving_on, moving_ends, same_size}
+use Rattle.buffers.proofs.Moving.{moving_starts, moving_on, moving_ends, same_size}
 use Rattle.buffers.proofs.move_down.Goals as goal
 use Rattle.buffers.proofs.move_down.Lts as lts
 use Rattle.buffers.proofs.move_down.Tie as tie

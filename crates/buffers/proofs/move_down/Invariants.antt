@@ -1,9 +1,6 @@
 -- `buffers::move_down` meets its contract: a byte goes to no place above its own. Assumes nothing.
-use Prim.Native.Nat.{◌-◌, ◌≤◌}
-use native.Mathlib.Omega.{arith}
-use borrow.Author.Rules.{rules}
-use lib.ListN.{length}
-use Rattle.buffers.proofs.Moving.{Moving, moving_starts, moving_on, moving_ends, same_size}
+use Prim.Native.Nat.{◌-◌}
+use Rattle.buffers.proofs.Moving.{Moving}
 use Rattle.buffers.proofs.move_down.Given as goal
 
 abbrev pub invariant-loop-i : goal.invariant-loop-i

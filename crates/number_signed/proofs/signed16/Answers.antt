@@ -1,5 +1,4 @@
 -- `number_signed::signed16` meets its contract. Assumes nothing.
-use borrow.Author.Rules.{rules}
 use Rattle.number_signed.proofs.Signed.{made_fits, made_right}
 use Rattle.number_signed.proofs.signed16.Goals as goal
 

@@ -4,7 +4,6 @@ use native.Mathlib.Omega.{arith}
 use lib.ListN.{length, take, length-take}
 use Rattle.octets.specs.Octets.{Bytes, copied}
 use Rattle.octets.proofs.Numbers.{length-octets, take-octets}
-use borrow.Author.Rules.{rules}
 use Rattle.number_writer.proofs.put_number.Goals as goal
 
 pub slice_bounds-copy_at-end : goal.slice_bounds-copy_at-end

@@ -1,5 +1,4 @@
 -- `page_layout::count_of` meets its contract. Assumes nothing.
-use borrow.Author.Rules.{rules}
 use Rattle.page_layout.proofs.count_of.Goals as goal
 
 pub returns : goal.returns

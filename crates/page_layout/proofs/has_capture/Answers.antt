@@ -1,5 +1,4 @@
 -- `page_layout::has_capture` meets its contract. Assumes nothing.
-use borrow.Author.Rules.{rules}
 use Rattle.page_layout.specs.Page.{has_capture}
 use Rattle.page_layout.proofs.has_capture.Goals as goal
 

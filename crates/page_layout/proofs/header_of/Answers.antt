@@ -1,5 +1,4 @@
 -- `page_layout::header_of` meets its contract: field by field. Assumes nothing.
-use borrow.Author.Rules.{rules}
 use Rattle.page_layout.specs.Page.{header_of}
 use Rattle.page_layout.proofs.header_of.Goals as goal
 

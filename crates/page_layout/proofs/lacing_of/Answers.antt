@@ -1,7 +1,6 @@
 -- `page_layout::lacing_of` meets its contract. Assumes nothing.
 use mathlib.Core.Path.{ap, ◌∙◌}
 use Prim.Native.Nat.{ℕ}
-use borrow.Author.Rules.{rules}
 use lib.ListN.{take, drop}
 use Rattle.page_layout.specs.Places.{lacing_at}
 use Rattle.page_layout.specs.Page.{lacing_of}

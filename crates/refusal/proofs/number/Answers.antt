@@ -1,6 +1,5 @@
 -- `refusal::number` meets its contract: what the match tells of each name gives its number. Assumes nothing.
 use mathlib.Core.Path.{sym, ap}
-use borrow.Author.Rules.{rules}
 use Rattle.refusal.specs.Numbers.{number_of}
 use Rattle.refusal.proofs.number.Goals as goal
 

@@ -1,7 +1,6 @@
 -- `text_escape::bytes_shown` meets its contract: the character at the place decides, where none began before. Assumes nothing.
 use mathlib.Core.Path.{◌≡◌, sym, ◌∙◌}
 use mathlib.Core.Bool.{true, false}
-use borrow.Author.Rules.{rules}
 use Rattle.text_escape.specs.Hidden.{is_hidden}
 use Rattle.text_escape.proofs.Escaping.{shown-before, shown_at}
 use Rattle.text_escape.proofs.bytes_shown.Goals as goal

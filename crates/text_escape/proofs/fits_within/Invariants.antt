@@ -1,14 +1,9 @@
 -- `text_escape::fits_within` meets its contract. The loop's invariant: what is left of the text and of the room decides. Assumes nothing.
-use mathlib.Core.Path.{◌≡◌, refl, sym, ap, ◌∙◌}
-use mathlib.Core.List.{◌++◌}
-use Prim.Native.Nat.{◌+◌, ◌-◌}
-use native.Mathlib.Omega.{arith}
+use mathlib.Core.Path.{◌≡◌}
+use Prim.Native.Nat.{◌-◌}
 use lib.Dec.{leb}
-use lib.ListN.{length, get_or, drop}
-use borrow.Author.Tests.{le-leb}
-use Rattle.octets.specs.Octets.{Bytes}
-use Rattle.text_escape.specs.Escape.{image_of, is_shown, escaped_from, escaped}
-use Rattle.text_escape.proofs.Escaping.{one_more, no_more, no_room, room_behind}
+use lib.ListN.{length, drop}
+use Rattle.text_escape.specs.Escape.{escaped_from, escaped}
 use Rattle.text_escape.proofs.fits_within.Given as goal
 
 abbrev pub invariant-loop-i : goal.invariant-loop-i

@@ -1,5 +1,4 @@
 -- `text_escape::hex_digit` meets its contract. Assumes nothing.
-use borrow.Author.Rules.{rules}
 use borrow.Author.Tests.{lt-ltb, le-ltb}
 use Rattle.text_escape.proofs.hex_digit.Goals as goal
 

@@ -2,7 +2,7 @@
 use mathlib.Core.List.{◌++◌}
 use Prim.Native.Nat.{◌+◌, ◌-◌}
 use native.Mathlib.Omega.{arith}
-use lib.ListN.{length, get_or, drop, length-append}
+use lib.ListN.{get_or, drop, length-append}
 use Rattle.text_escape.specs.Escape.{image_of, is_shown, escaped_from, escaped}
 use Rattle.text_put.proofs.Filling.{Filling, filling_first, filling_next, filling_done}
 use Rattle.text_escape.proofs.Escaping.{one_more, no_more}

@@ -1,7 +1,6 @@
 -- `text_put::put_both` meets its contract. Assumes nothing.
 use Prim.Native.Nat.{◌+◌, ◌≤◌, ◌<◌}
 use native.Mathlib.Omega.{arith}
-use borrow.Author.Rules.{rules}
 use lib.ListN.{length, length-append}
 use Rattle.octets.proofs.Tests.{is_below, not-below}
 use Rattle.text_put.proofs.Putting.{put-laid, put-nothing, laid-put, laid_then}

@@ -1,7 +1,6 @@
 -- `utf8::find_character` meets its contract: what is at the place decides, and the number is worked out again. Assumes nothing.
 use mathlib.Core.Path.{sym, ◌∙◌}
 use native.Mathlib.Omega.{arith}
-use borrow.Author.Rules.{rules}
 use lib.ListN.{get_or}
 use Rattle.utf8.proofs.Characters.{is_right, length_most, past_end, none_here, some-here}
 use Rattle.utf8.proofs.find_character.Goals as goal

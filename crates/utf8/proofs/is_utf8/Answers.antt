@@ -1,9 +1,8 @@
 -- `utf8::is_utf8` meets its contract. The loop's invariant: what is left decides. Assumes nothing.
-use mathlib.Core.Path.{◌≡◌, refl, sym, ◌∙◌}
-use Prim.Native.Nat.{◌+◌, ◌-◌, ◌≤◌}
+use mathlib.Core.Path.{refl, sym, ◌∙◌}
+use Prim.Native.Nat.{◌+◌, ◌≤◌}
 use native.Mathlib.Omega.{arith}
-use borrow.Author.Rules.{rules}
-use lib.ListN.{length, drop, drop_of_length-le}
+use lib.ListN.{length, drop_of_length-le}
 use Rattle.utf8.specs.Characters.{utf8_from, utf8}
 use Rattle.utf8.proofs.Characters.{wrong-here, right_inside, right_here}
 use Rattle.utf8.proofs.is_utf8.Goals as goal

@@ -3,9 +3,9 @@ use mathlib.Core.Path.{◌≡◌, refl, sym, ◌∙◌}
 use Prim.Native.Nat.{suc, ◌%◌}
 use native.Mathlib.Nat.{pow-le-pow_right, mul-le-mul}
 use native.Mathlib.Omega.{arith}
-use lib.ListN.{get_or, drop}
+use lib.ListN.{get_or}
 use Rattle.utf8.specs.Characters.{number_with}
-use Rattle.utf8.proofs.Tails.{cut-number, six_bits, Room, fits, next}
+use Rattle.utf8.proofs.Tails.{cut-number, six_bits, fits, next}
 use Rattle.utf8.proofs.number_with.Goals as goal
 
 pub loop-left-init : goal.loop-left-init

@@ -1,11 +1,8 @@
 -- `utf8::number_with` meets its contract. The loop's invariant: what is left gives the number, which has room. Assumes nothing.
-use mathlib.Core.Path.{◌≡◌, refl, sym, ◌∙◌}
-use Prim.Native.Nat.{suc, ◌%◌}
-use native.Mathlib.Nat.{pow-le-pow_right, mul-le-mul}
-use native.Mathlib.Omega.{arith}
-use lib.ListN.{get_or, drop}
+use mathlib.Core.Path.{◌≡◌}
+use lib.ListN.{drop}
 use Rattle.utf8.specs.Characters.{number_with}
-use Rattle.utf8.proofs.Tails.{cut-number, six_bits, Room, fits, next}
+use Rattle.utf8.proofs.Tails.{Room}
 use Rattle.utf8.proofs.number_with.Given as goal
 
 abbrev pub invariant-loop-left : goal.invariant-loop-left

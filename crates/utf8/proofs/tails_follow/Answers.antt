@@ -1,7 +1,6 @@
 -- `utf8::tails_follow` meets its contract. The loop's invariant: what is left decides. Assumes nothing.
 use mathlib.Core.Path.{◌≡◌, refl, sym, ◌∙◌}
 use native.Mathlib.Omega.{arith}
-use lib.ListN.{drop}
 use Rattle.utf8.specs.Characters.{tails_follow}
 use Rattle.utf8.proofs.Tails.{cut_tails, low-tail, high-tail, right_tail}
 use Rattle.utf8.proofs.tails_follow.Goals as goal

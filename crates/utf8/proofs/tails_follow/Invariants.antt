@@ -1,9 +1,7 @@
 -- `utf8::tails_follow` meets its contract. The loop's invariant: what is left decides. Assumes nothing.
-use mathlib.Core.Path.{◌≡◌, refl, sym, ◌∙◌}
-use native.Mathlib.Omega.{arith}
+use mathlib.Core.Path.{◌≡◌}
 use lib.ListN.{drop}
 use Rattle.utf8.specs.Characters.{tails_follow}
-use Rattle.utf8.proofs.Tails.{cut_tails, low-tail, high-tail, right_tail}
 use Rattle.utf8.proofs.tails_follow.Given as goal
 
 abbrev pub invariant-loop-missing : goal.invariant-loop-missing
