@@ -2,7 +2,6 @@
 use Prim.Native.Nat.{ℕ, ◌+◌, ◌<◌, ◌≤◌, ◌^◌}
 use mathlib.Core.Path.{◌≡◌, refl, sym, ap, subst, ◌∙◌}
 use mathlib.Core.Bool.{Bool, true, false, not, ◌&&◌, false≢true}
-use mathlib.Core.List.{List}
 use mathlib.Core.Option.{Option, some}
 use native.Mathlib.Nat.{add-zero}
 use native.Mathlib.Omega.{arith}
@@ -31,7 +30,7 @@ use Rattle.stream.specs.Readings.{Readings}
 use Rattle.stream.specs.State.{State, is_audio}
 use Rattle.stream.specs.Packets.{Seen, seen, too_long, long_from, is_long}
 use Rattle.limits.specs.Limits.{packet_max, list_max}
-use Rattle.stream.specs.Lent.{Lent, is_short, lent_of, short_by}
+use Rattle.stream.specs.Lent.{Lent, is_short, short_by}
 use Rattle.stream.specs.Feed.{carried_in, view, carry_after, fed_by, reader_of, FedIs, Taken, told_page}
 use Rattle.stream.proofs.Pieces.{or_left, or_right, seen-completes}
 use Rattle.stream.specs.declared.PageFed.TheVariants.{Refused}

@@ -1,7 +1,7 @@
 -- The granule position of an audio page (RULES.md, 8 and 9, refusals 11, 19, 18 and 17; RFC 7845, 4). G is its granule, D the
 -- samples of the packets that complete there. Feeding judges a G of at most 2^63 - 1 only (11); the rules here are for every
 -- number. Assumes nothing.
-use Rattle.std.specs.Prelude.{ℕ, ◌+◌, ◌-◌, ◌%◌, ◌^◌, Bool, true, false, not, ◌&&◌, List, [], ◌∷◌, ltb, eqb}
+use Rattle.std.specs.Prelude.{ℕ, ◌+◌, ◌-◌, ◌^◌, Bool, true, false, not, ◌&&◌, List, [], ◌∷◌, ltb, eqb}
 use Rattle.octets.specs.Pick.{pick}
 use Rattle.refusal.specs.declared.Refusal.TheVariants.{NoPosition, BelowPreSkip, GranuleTooSmall}
 use Rattle.refusal.specs.Checks.{Check, ◌when◌, first_of}

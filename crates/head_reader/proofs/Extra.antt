@@ -2,7 +2,7 @@
 use mathlib.Core.Path.{◌≡◌, refl, sym, ap, ◌∙◌}
 use mathlib.Core.Bool.{Bool, true, false}
 use mathlib.Core.List.{[], ◌∷◌, ◌++◌}
-use Prim.Native.Nat.{ℕ, suc, ◌+◌, ◌≤◌, ◌<◌}
+use Prim.Native.Nat.{ℕ, ◌+◌, ◌≤◌, ◌<◌}
 use native.Mathlib.Nat.{le_of_suc-le-suc, not-suc-le-zero}
 use native.Mathlib.Omega.{arith}
 use borrow.Author.Tests.{le-leb}
@@ -10,7 +10,6 @@ use lib.ListN.{length, get_or, take, drop, length-append, length-drop, get_or-ap
 use lib.Seq.{take-append-le, drop-append-le}
 use Rattle.octets.specs.Octets.{Bytes, begins}
 use Rattle.octets.specs.Numbers.{value, number}
-use Rattle.refusal.specs.Checks.{first_of}
 use Rattle.head_fields.specs.Layout.{signature, version_place, channels_place, preskip_place, rate_place, gain_place, family_place}
 use Rattle.head_fields.specs.Layout.{streams_place, coupled_place, indices_place, start_length}
 use Rattle.head_families.specs.Families.{has_counts, index_count, matrix_length}

@@ -25,7 +25,7 @@ use Rattle.refusal.specs.Told.{gives}
 use Rattle.head_fields.specs.declared.Head.{Head}
 use Rattle.head_fields.specs.Widths.{WideFields}
 use Rattle.head_fields.specs.Layout.{signature, version_place, channels_place, preskip_place, rate_place, gain_place, family_place}
-use Rattle.head_fields.specs.Layout.{streams_place, coupled_place, indices_place, matrix_place, start_length, fits_packet}
+use Rattle.head_fields.specs.Layout.{streams_place, coupled_place, indices_place, start_length, fits_packet}
 use Rattle.head_fields.specs.Layout.{used_count, matrix_size, head_size}
 use Rattle.head_families.specs.Families.{has_counts, has_matrix, index_count, matrix_length}
 use Rattle.head_reader.specs.Fields.{streams_of, coupled_of, indices_of, places, head_of, matrix_of}

@@ -19,7 +19,7 @@ use Rattle.page_crc.proofs.Page.{page_crc-fits}
 use Rattle.page_layout.specs.declared.PageHeader.{PageHeader}
 use Rattle.page_layout.specs.Places.{capture_pattern, version_at, flags_at, granule_at, serial_at, sequence_at, checksum_at, count_at, lacing_at}
 use Rattle.page_layout.specs.Page.{header_of, checksum_of, count_of, lacing_of, body_of}
-use Rattle.page_lacing.proofs.Bodies.{is_body, body-sum}
+use Rattle.page_lacing.proofs.Bodies.{is_body_lem, body-sum}
 use Rattle.page_size.specs.Size.{size_of, is_one_page}
 use Rattle.page_reader.specs.Reading.{read_checks, read_page}
 use Rattle.page_writer.specs.Writing.{page_bytes, page_size, write_checks, write_told, write_out}
@@ -126,5 +126,5 @@ writes_back p out h o e low room =
     let same : page_bytes h l b ≡ p = rw r.1 at (page-again p o one ok) in
     let size : page_size l b ≡ length p = size_same p one in
     let clear : first_of (write_checks h l b (length out)) ≡ none =
-    (writable h l b (length out) (is_body l b (omega (arith, o.below count_at, lacing-length p one)) (sym (body-length p one))) low (omega arith)) in
+    (writable h l b (length out) (is_body_lem l b (omega (arith, o.below count_at, lacing-length p one)) (sym (body-length p one))) low (omega arith)) in
     record { told = rw clear (ap gives size); output = rw (clear, same) }

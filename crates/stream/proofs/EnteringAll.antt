@@ -11,12 +11,12 @@ use Rattle.octets.specs.Octets.{Bytes}
 use Rattle.refusal.specs.declared.Refusal.{Refusal}
 use Rattle.refusal.specs.Told.{Told}
 use Rattle.stream.specs.declared.Core.{Core}
-use Rattle.stream.specs.Page.{page_of, last, completes}
+use Rattle.stream.specs.Page.{page_of, last}
 use Rattle.stream.specs.Readings.{Readings}
 use Rattle.stream.specs.State.{Carried, State, is_first, expecting}
 use Rattle.stream.specs.Packets.{seen}
 use Rattle.stream.specs.Rules.{Stamp, next_on, verdict, after}
-use Rattle.stream.specs.Feed.{Reader, view, Fed}
+use Rattle.stream.specs.Feed.{Reader, Fed}
 use Rattle.stream.specs.Lent.{is_short}
 use Rattle.stream.specs.Feedings.{Feeding, feed_in, reader_by, reader_after, finally, held_of, left_in, carry_left, HandedOn, tell}
 use Rattle.stream.specs.Statements.{state_shifted, BytesShifted, view_of, Alike}

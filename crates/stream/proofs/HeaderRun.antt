@@ -7,10 +7,9 @@ use mathlib.Core.List.{List, [], ◌∷◌, map}
 use mathlib.Core.Option.{Option, none, some}
 use native.Mathlib.Nat.{sub-zero, zero-add}
 use native.Mathlib.Omega.{arith}
-use borrow.Author.Tests.{not-false}
 use lib.ListN.{length}
 use Rattle.octets.specs.Pick.{pick}
-use Rattle.octets.specs.Octets.{Bytes, total}
+use Rattle.octets.specs.Octets.{Bytes}
 use Rattle.head_fields.specs.declared.Head.{Head}
 use Rattle.granule.specs.declared.Position.TheVariants.{Unset}
 use Rattle.granule.specs.Samples.{tally, kept_of, skipped_of, trimmed_of}
@@ -21,11 +20,11 @@ use Rattle.stream.specs.declared.Shape.TheVariants.{Ends, GoesOn, Other}
 use Rattle.stream.specs.Page.{Page, page_of, completes, whole, rest}
 use Rattle.stream.specs.Readings.{Readings}
 use Rattle.stream.specs.State.{Carried, nothing, dropped, held, State, unfinished, expecting}
-use Rattle.stream.specs.Packets.{begun, join, seen, audio_packets, measures_of, samples_of}
+use Rattle.stream.specs.Packets.{join, seen, audio_packets, measures_of, samples_of}
 use Rattle.stream.specs.Rules.{next_on, verdict, after}
 use Rattle.stream.specs.Shape.{shape_of, is_other}
 use Rattle.stream.specs.Feed.{entries, entries_on, counts_on, skip_on}
-use Rattle.stream.specs.Stream.{segments_of, left_from, open_from, open_after, left_after, carried_of, after_comment, ended_after, audio_phase, comment_phase, Mark, marks_from, position_from, decoded_in, Listing, nothing_listed, audio_listings, comment_listings, listings}
+use Rattle.stream.specs.Stream.{segments_of, left_from, open_from, open_after, left_after, carried_of, after_comment, ended_after, audio_phase, comment_phase, Mark, marks_from, position_from, decoded_in, Listing, nothing_listed, audio_listings, comment_listings}
 use Rattle.stream.specs.Feedings.{Shown, bytes_in, bytes_of, has_position}
 use Rattle.stream.proofs.Passed.{shaped}
 use Rattle.stream.proofs.Shapes.{Says, shape-says}

@@ -5,7 +5,7 @@ use mathlib.Core.List.{List, [], ◌++◌}
 use mathlib.Core.Option.{none}
 use lib.Dec.{ltb, eqb}
 use Rattle.octets.specs.Pick.{pick}
-use Rattle.octets.specs.Octets.{Bytes, total}
+use Rattle.octets.specs.Octets.{Bytes}
 use Rattle.refusal.specs.Checks.{Check, first_of}
 use Rattle.granule.specs.Judging.{granule_wrong, is_joined, is_unset, too_small, judge_checks}
 use Rattle.stream.specs.Page.{page_of, continued, last, granule_of}

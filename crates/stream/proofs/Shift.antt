@@ -16,7 +16,6 @@ use Rattle.stream.specs.Readings.{Readings}
 use Rattle.stream.specs.State.{State, is_first, expecting_in, expecting}
 use Rattle.stream.specs.Packets.{Seen, seen, audio_packets, measures_of}
 use Rattle.stream.specs.Rules.{time_checks, checks_on, start_on, stamps_on, next_on, verdict, after, stamped}
-use Rattle.stream.specs.Shape.{wrong_shape}
 use Rattle.stream.specs.Feedings.{feed_in}
 use Rattle.stream.specs.Statements.{shifted, state_shifted, BytesShifted, view_of, Congruence}
 use Rattle.stream.proofs.Step.{state_by, tell_by, Stepped, stepped}

@@ -7,7 +7,7 @@ use mathlib.Core.Option.{none}
 use native.Mathlib.Nat.{zero-add}
 use native.Mathlib.Omega.{arith}
 use lib.ListN.{length}
-use Rattle.octets.specs.Octets.{Bytes, total}
+use Rattle.octets.specs.Octets.{Bytes}
 use Rattle.head_fields.specs.declared.Head.{Head}
 use Rattle.granule.specs.declared.Position.TheVariants.{Unset}
 use Rattle.granule.specs.Samples.{tally, kept_of, skipped_of, trimmed_of}

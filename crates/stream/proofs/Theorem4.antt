@@ -14,7 +14,7 @@ use Rattle.head_fields.specs.declared.Head.{Head}
 use Rattle.granule.specs.declared.Position.{Position}
 use Rattle.granule.specs.declared.Position.TheVariants.{Unset, At}
 use Rattle.granule.specs.Samples.{tally}
-use Rattle.granule.specs.Judging.{too_small, from, hole}
+use Rattle.granule.specs.Judging.{too_small, from}
 use Rattle.granule.proofs.Tallies.{tally-same, tally-parts}
 use Rattle.stream.specs.Page.{page_of, last, granule_of, completes}
 use Rattle.stream.specs.Packets.{samples_of}

@@ -8,7 +8,7 @@ use native.Mathlib.Omega.{arith}
 use borrow.Author.Tests.{ltb-false, le-ltb}
 use lib.ListN.{length}
 use Rattle.octets.specs.Pick.{pick}
-use Rattle.octets.specs.Octets.{Bytes, total}
+use Rattle.octets.specs.Octets.{Bytes}
 use Rattle.refusal.specs.declared.Refusal.TheVariants.{NoPosition}
 use Rattle.refusal.specs.Checks.{first_of}
 use Rattle.head_fields.specs.declared.Head.{Head}
@@ -22,7 +22,6 @@ use Rattle.stream.specs.Readings.{Readings}
 use Rattle.stream.specs.State.{Carried, nothing, dropped, held, State, unfinished}
 use Rattle.stream.specs.Packets.{Seen, begun, join, is_long, audio_packets, measures_of, samples_of}
 use Rattle.stream.specs.Rules.{packet_checks, time_checks, checks_on, stamps, start_on, stamps_on}
-use Rattle.stream.specs.Shape.{wrong_shape}
 use Rattle.stream.specs.Feedings.{drop_if}
 use Rattle.stream.proofs.Pieces.{long-dropped}
 use Rattle.stream.proofs.Clear.{Clear}

@@ -1,6 +1,6 @@
 -- The memory that is lent to a feeding: a carry buffer and four lists (RULES.md, 1, refusal 1). Assumes nothing.
 use Rattle.std.specs.Prelude.{ℕ, Bool, ◌||◌, List, ltb, length}
-use Rattle.std.specs.Borrow.{Bor}
+use denote.Ref.{MutBor}
 use denote.Triple.Both.{Both}
 use Rattle.octets.specs.Octets.{Bytes}
 use Rattle.limits.specs.Limits.{packet_max, list_max}
@@ -25,7 +25,7 @@ with_carry m carry = lent_of carry m.ends m.lengths m.kept m.frames
 
 -- a slice that a function is lent, at entry and at exit
 abbrev pub Slice : Type 0
-Slice = Both (Bor (List ℕ)) (Bor (List ℕ))
+Slice = Both (MutBor (List ℕ)) (MutBor (List ℕ))
 
 abbrev pub at_entry : Slice → Slice → Slice → Slice → Slice → Lent
 at_entry carry ends lengths kept frames =

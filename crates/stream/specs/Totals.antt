@@ -11,7 +11,7 @@ use Rattle.granule.specs.declared.Position.TheVariants.{Joined, At}
 use Rattle.granule.specs.Judging.{granule_max, hole}
 use Rattle.stream.specs.declared.Tally.{Tally}
 use Rattle.stream.specs.Page.{page_of, granule_of, completes}
-use Rattle.stream.specs.Readings.{Readings, readings}
+use Rattle.stream.specs.Readings.{readings}
 use Rattle.stream.specs.Feed.{Reader, start, open_at, Entry}
 use Rattle.stream.specs.Stream.{head_of, Mark, marks, last_granule, initial, holes, kept_count, skipped_count, trimmed_count}
 use Rattle.stream.specs.Feedings.{Feeding, finally, HandedOn, Shown, stream, bytes_of}

@@ -1,6 +1,6 @@
 -- Comments cut from a text by their lengths: one turn of a loop over the lengths. Assumes nothing.
 use mathlib.Core.Path.{◌≡◌, refl, ap, ap₂, ◌∙◌}
-use mathlib.Core.Bool.{Bool, true, false, ◌&&◌, ◌||◌}
+use mathlib.Core.Bool.{Bool, true, false, ◌&&◌}
 use mathlib.Core.List.{List, ◌∷◌}
 use Prim.Native.Nat.{ℕ, ◌+◌, ◌-◌, ◌≤◌, ◌<◌}
 use native.Mathlib.Numerals.{add-one}
@@ -10,8 +10,6 @@ use lib.Dec.{eqb}
 use lib.ListN.{length, get_or, take, drop, drop_of_length-le}
 use lib.Seq.{drop-cons, drop-drop}
 use Rattle.octets.specs.Octets.{Bytes, total}
-use Rattle.tags_comment.specs.Names.{is_named}
-use Rattle.tags_rules.specs.Right.{track_gain, album_gain}
 use Rattle.tags_writer.specs.Writing.{cut_by}
 use Rattle.tags_rules.specs.Code.{wrong, seen, judged, right_from}
 use Rattle.tags_writer.specs.Code.{right_lengths}

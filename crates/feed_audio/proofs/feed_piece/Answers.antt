@@ -1,6 +1,5 @@
 -- `feed_audio::feed_piece` meets its contract: `Pages.antt` puts the steps together. Assumes nothing.
 use mathlib.Core.Path.{ap, ◌∙◌}
-use borrow.Author.Rules.{rules}
 use Rattle.stream.specs.declared.Pending.{Pending}
 use Rattle.stream.specs.Lent.{with_carry}
 use Rattle.feed_audio.specs.Code.{next_core}
@@ -8,7 +7,7 @@ use Rattle.feed_audio.proofs.Pages.{piece-page}
 use Rattle.feed_audio.proofs.feed_piece.Goals as goal
 
 pub returns : goal.returns
-returns c =
+returns c crc l m s =
     let a = c.args in
     rw (c.next_tally.ensures, c.no_counts-counts.ensures) (piece-page crc a.core a.tally a.h l a.body.now (with_carry m a.carry.now) a.bytes a.rest s
     c.append.ensures

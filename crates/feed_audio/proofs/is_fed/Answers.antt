@@ -1,5 +1,4 @@
 -- `feed_audio::is_fed` meets its contract. Assumes nothing.
-use borrow.Author.Rules.{rules}
 use Rattle.octets.proofs.Tests.{failed, held}
 use Rattle.feed_audio.proofs.is_fed.Goals as goal
 

@@ -1,6 +1,5 @@
 -- `feed_fields::and_then` meets its contract. Assumes nothing.
 use mathlib.Core.Path.{◌≡◌}
-use borrow.Author.Rules.{rules}
 use Rattle.refusal.specs.Checks.{first_of}
 use Rattle.feed_fields.specs.declared.Checked.TheVariants.{Passed, Refused}
 use Rattle.feed_fields.proofs.and_then.Goals as goal

@@ -1,5 +1,4 @@
 -- `feed_fields::check_fields` meets its contract. Assumes nothing.
-use borrow.Author.Rules.{rules}
 use Rattle.stream.specs.Page.{continued}
 use Rattle.feed_fields.proofs.Fields.{four, pending-view}
 use Rattle.feed_fields.proofs.check_fields.Goals as goal

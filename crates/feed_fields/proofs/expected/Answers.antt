@@ -1,6 +1,5 @@
 -- `feed_fields::expected` meets its contract, phase by phase. Assumes nothing.
 use mathlib.Core.Path.{◌≡◌}
-use borrow.Author.Rules.{rules}
 use Rattle.stream.specs.declared.Phase.TheVariants.{First, Comment, Audio, Opened, Ended}
 use Rattle.stream.specs.Page.{continued}
 use Rattle.stream.specs.State.{expecting}

@@ -1,5 +1,4 @@
 -- `feed_fields::remade` meets its contract. Assumes nothing.
-use borrow.Author.Rules.{rules}
 use Rattle.feed_fields.proofs.remade.Goals as goal
 
 pub returns : goal.returns

@@ -1,6 +1,5 @@
 -- `feed_fields::same_pending` meets its contract. Assumes nothing.
 use mathlib.Core.Path.{sym}
-use borrow.Author.Rules.{rules}
 use Rattle.feed_fields.proofs.same_pending.Goals as goal
 
 pub returns-in-Held : goal.returns-in-Held

@@ -1,6 +1,5 @@
 -- `feed_fields::same_position` meets its contract. Assumes nothing.
 use mathlib.Core.Path.{sym}
-use borrow.Author.Rules.{rules}
 use Rattle.feed_fields.proofs.same_position.Goals as goal
 
 pub returns-in-At : goal.returns-in-At

@@ -1,5 +1,4 @@
 -- `feed_fields::wrong_flags` meets its contract. Assumes nothing.
-use borrow.Author.Rules.{rules}
 use Rattle.stream.specs.Rules.{wrong_flags}
 use Rattle.feed_fields.proofs.wrong_flags.Goals as goal
 

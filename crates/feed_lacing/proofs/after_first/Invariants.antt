@@ -1,11 +1,8 @@
 -- `feed_lacing::after_first` meets its contract. Assumes nothing.
-use mathlib.Core.Path.{◌≡◌, refl, sym, ap, ◌∙◌}
-use Prim.Native.Nat.{ℕ, ◌+◌, ◌-◌, ◌<◌, ◌≤◌}
-use native.Mathlib.Omega.{arith}
-use lib.ListN.{length, get_or, drop, drop_of_length-le}
+use mathlib.Core.Path.{◌≡◌}
+use Prim.Native.Nat.{◌-◌, ◌≤◌}
+use lib.ListN.{length, drop}
 use Rattle.stream.specs.Packets.{after_first}
-use Rattle.feed_lacing.proofs.Values.{next}
-use Rattle.feed_lacing.proofs.Scanning.{after-goes_on, after-ends}
 use Rattle.feed_lacing.proofs.after_first.Given as goal
 
 abbrev pub invariant-loop-i : goal.invariant-loop-i

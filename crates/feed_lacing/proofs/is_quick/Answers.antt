@@ -3,7 +3,6 @@ use mathlib.Core.Path.{◌≡◌, ap, ◌∙◌}
 use mathlib.Core.Bool.{true, false}
 use Prim.Native.Nat.{ℕ, ◌-◌}
 use native.Mathlib.Omega.{arith}
-use borrow.Author.Rules.{rules}
 use borrow.Author.Tests.{leb-true}
 use lib.ListN.{length}
 use lib.Seq.{take_all}
@@ -17,16 +16,16 @@ refused : {A : Type 0} → false ≡ true → A
 refused e = let z : ◌≡◌ {A = ℕ} 0 1 = cc in absurd (omega arith)
 
 pub returns-then-n-eq0 : goal.returns-then-n-eq0
-returns-then-n-eq0 c = refused e
+returns-then-n-eq0 c e = refused e
 
 pub returns-then-n-gt255 : goal.returns-then-n-gt255
-returns-then-n-gt255 c = refused e
+returns-then-n-gt255 c e = refused e
 
 pub returns-then-lacing-n : goal.returns-then-lacing-n
-returns-then-lacing-n c = refused e
+returns-then-lacing-n c e = refused e
 
 pub returns : goal.returns
-returns c =
+returns c e =
     let l : Bytes = c.args.lacing.now in
     let n : ℕ = length l - 1 in
     let few = leb-true c.sum_of.result packet_max e in

@@ -1,13 +1,12 @@
 -- `feed_lacing::scan_from` meets its contract: `Scanning.antt` has the ways of a turn. Assumes nothing.
-use Prim.Native.Nat.{ℕ, ◌+◌, ◌-◌, ◌<◌, ◌≤◌}
+use Prim.Native.Nat.{ℕ, ◌+◌, ◌<◌}
 use mathlib.Core.Path.{◌≡◌, refl}
-use mathlib.Core.Logic.{⊎_elim}
 use native.Mathlib.Omega.{arith}
 use lib.ListN.{length, drop, drop_of_length-le}
-use Rattle.feed_lacing.specs.Scan.{scan_of}
 use Rattle.feed_lacing.proofs.Values.{next}
 use Rattle.feed_lacing.proofs.Scanning.{above_scan, scan_end, scan_goes_on, ends-long, ends-short}
 use Rattle.feed_lacing.proofs.scan_from.Goals as goal
+use Rattle.feed_lacing.proofs.scan_from.Goals.{then-v-lt255+else-bytes-gt-PACKET_MAX-2, else-v-lt255}
 
 pub loop-i-init : goal.loop-i-init
 loop-i-init c = (refl, omega arith)
@@ -43,14 +42,14 @@ loop-i-preserved c =
     let l = c.args.lacing.now in
     let v : ℕ = c.wide-v.result in
     let in_l : at.i < length l = omega arith in
-    ⊎_elim
-    (λ w.
-    let z : c.if-v-lt255.bytes ≡ 0 = cc in
-    (rw (z, at.invariant.0, next l at.i v in_l c.wide-v.ensures.same) (ends-short (drop (at.i + 1) l) at.bytes v w.0.taken w.1.left), omega arith))
-    (λ w.
-    let z : c.if-v-lt255.bytes ≡ at.bytes + v = cc in
-    (rw (z, at.invariant.0, next l at.i v in_l c.wide-v.ensures.same) (scan_goes_on (drop (at.i + 1) l) at.bytes v w.0.left), omega arith))
-    c.if-v-lt255.branch
+    elim c.if-v-lt255.branch [
+      | then-v-lt255+else-bytes-gt-PACKET_MAX-2 w ↦
+          let z : c.if-v-lt255.bytes ≡ 0 = cc in
+          (rw (z, at.invariant.0, next l at.i v in_l c.wide-v.ensures.same) (ends-short (drop (at.i + 1) l) at.bytes v w.if-v-lt255.true w.if-bytes-gt-PACKET_MAX-2.false), omega arith)
+      | else-v-lt255 w ↦
+          let z : c.if-v-lt255.bytes ≡ at.bytes + v = cc in
+          (rw (z, at.invariant.0, next l at.i v in_l c.wide-v.ensures.same) (scan_goes_on (drop (at.i + 1) l) at.bytes v w.if-v-lt255.false), omega arith)
+    ]
 
 pub returns-then-bytes-gt-PACKET_MAX-3 : goal.returns-then-bytes-gt-PACKET_MAX-3
 returns-then-bytes-gt-PACKET_MAX-3 c = (rw c.loop-i.invariant.0 (above_scan _ _ c.if-bytes-gt-PACKET_MAX-3.true))

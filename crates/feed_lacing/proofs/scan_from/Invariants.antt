@@ -1,12 +1,8 @@
 -- `feed_lacing::scan_from` meets its contract: `Scanning.antt` has the ways of a turn. Assumes nothing.
-use Prim.Native.Nat.{ℕ, ◌+◌, ◌-◌, ◌<◌, ◌≤◌}
-use mathlib.Core.Path.{◌≡◌, refl}
-use mathlib.Core.Logic.{⊎_elim}
-use native.Mathlib.Omega.{arith}
-use lib.ListN.{length, drop, drop_of_length-le}
+use Prim.Native.Nat.{◌-◌, ◌≤◌}
+use mathlib.Core.Path.{◌≡◌}
+use lib.ListN.{length, drop}
 use Rattle.feed_lacing.specs.Scan.{scan_of}
-use Rattle.feed_lacing.proofs.Values.{next}
-use Rattle.feed_lacing.proofs.Scanning.{above_scan, scan_end, scan_goes_on, ends-long, ends-short}
 use Rattle.feed_lacing.proofs.scan_from.Given as goal
 
 abbrev pub invariant-loop-i : goal.invariant-loop-i

@@ -1,7 +1,6 @@
 -- `feed_lacing::scan_new` meets its contract. Assumes nothing.
 use mathlib.Core.Path.{sym}
 use native.Mathlib.Omega.{arith}
-use borrow.Author.Rules.{rules}
 use Rattle.feed_lacing.proofs.scan_new.Goals as goal
 
 pub returns-then-is_quick : goal.returns-then-is_quick

@@ -1,7 +1,6 @@
 -- `feed_lacing::scan_page` meets its contract. Assumes nothing.
 use mathlib.Core.Path.{◌≡◌, ap, ◌∙◌}
 use native.Mathlib.Omega.{arith}
-use borrow.Author.Rules.{rules}
 use Rattle.stream.specs.declared.Pending.TheVariants.{Nothing, Held, Dropped}
 use Rattle.feed_lacing.specs.Scan.{scan_of}
 use Rattle.feed_lacing.proofs.scan_page.Goals as goal

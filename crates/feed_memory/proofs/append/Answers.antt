@@ -1,6 +1,5 @@
 -- `feed_memory::append` meets its contract. Assumes nothing.
 use mathlib.Core.Path.{◌≡◌}
-use borrow.Author.Rules.{rules}
 use Rattle.stream.specs.declared.Phase.TheVariants.{Comment}
 use Rattle.stream.specs.declared.Pending.TheVariants.{Nothing, Held}
 use Rattle.feed_memory.proofs.append.Goals as goal

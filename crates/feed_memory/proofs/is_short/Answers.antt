@@ -1,5 +1,4 @@
 -- `feed_memory::is_short` meets its contract. Assumes nothing.
-use borrow.Author.Rules.{rules}
 use Rattle.feed_memory.proofs.is_short.Goals as goal
 
 pub returns : goal.returns

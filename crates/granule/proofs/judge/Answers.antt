@@ -1,6 +1,5 @@
 -- `granule::judge` meets its contract. Assumes nothing.
 use mathlib.Core.Path.{◌≡◌}
-use borrow.Author.Rules.{rules}
 use Rattle.granule.specs.declared.Position.TheVariants.{Unset, Joined, At}
 use Rattle.granule.proofs.judge.Goals as goal
 

@@ -2,7 +2,6 @@
 use Prim.Native.Nat.{◌+◌, ◌-◌, ◌≤◌, ◌<◌}
 use mathlib.Core.Path.{◌≡◌, sym}
 use native.Mathlib.Omega.{arith}
-use borrow.Author.Rules.{rules}
 use Rattle.granule.proofs.Placing.{below_at, cut_at, short_at, whole_at}
 use Rattle.granule.proofs.judge_at.Goals as goal
 

@@ -1,6 +1,5 @@
 -- `granule::judge_joined` meets its contract. Assumes nothing.
 use mathlib.Core.Path.{sym, ap, ◌∙◌}
-use borrow.Author.Rules.{rules}
 use Rattle.refusal.specs.Told.{gives}
 use Rattle.granule.proofs.Placing.{no_position, small-joined, next-joined}
 use Rattle.granule.proofs.judge_joined.Goals as goal

@@ -1,6 +1,5 @@
 -- `granule::judge_unset` meets its contract. Assumes nothing.
 use mathlib.Core.Path.{sym, ap, ◌∙◌}
-use borrow.Author.Rules.{rules}
 use Rattle.refusal.specs.Told.{gives}
 use Rattle.granule.proofs.Placing.{below-preskip, last_unset, small_unset, next_unset}
 use Rattle.granule.proofs.judge_unset.Goals as goal

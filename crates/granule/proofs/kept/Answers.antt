@@ -1,6 +1,5 @@
 -- `granule::kept` meets its contract. Assumes nothing.
 use mathlib.Core.Path.{sym}
-use borrow.Author.Rules.{rules}
 use Rattle.granule.proofs.Counting.{closed_forms}
 use Rattle.granule.proofs.kept.Goals as goal
 

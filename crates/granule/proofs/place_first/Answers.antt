@@ -1,5 +1,4 @@
 -- `granule::place_first` meets its contract. Assumes nothing.
-use borrow.Author.Rules.{rules}
 use Rattle.granule.proofs.place_first.Goals as goal
 
 pub returns : goal.returns

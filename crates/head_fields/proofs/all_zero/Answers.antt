@@ -1,8 +1,7 @@
 -- `head_fields::all_zero` meets its contract. The loop's invariant: what is left decides. Assumes nothing.
-use mathlib.Core.Path.{◌≡◌, refl, sym, ◌∙◌}
-use Prim.Native.Nat.{◌-◌, ◌≤◌}
+use mathlib.Core.Path.{refl, sym, ◌∙◌}
 use native.Mathlib.Omega.{arith}
-use lib.ListN.{length, drop, drop_of_length-le}
+use lib.ListN.{drop_of_length-le}
 use Rattle.head_fields.specs.Right.{all_zero}
 use Rattle.head_fields.proofs.Checks.{some-place, zero-place}
 use Rattle.head_fields.proofs.all_zero.Goals as goal

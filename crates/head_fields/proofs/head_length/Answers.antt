@@ -1,7 +1,6 @@
 -- `head_fields::head_length` meets its contract. Assumes nothing.
 use Prim.Native.Nat.{◌≤◌}
 use native.Mathlib.Omega.{arith}
-use borrow.Author.Rules.{rules}
 use Rattle.octets.proofs.Tests.{failed, held}
 use Rattle.head_families.proofs.Lengths.{matrix-most}
 use Rattle.head_fields.proofs.head_length.Goals as goal

@@ -1,12 +1,11 @@
 -- `head_fields::right_indices` meets its contract. The loop's invariant: what is left decides. Assumes nothing.
-use mathlib.Core.Path.{◌≡◌, refl, sym, ◌∙◌}
-use mathlib.Core.Logic.{⊎_elim}
-use Prim.Native.Nat.{◌-◌, ◌≤◌}
+use mathlib.Core.Path.{refl, sym, ◌∙◌}
 use native.Mathlib.Omega.{arith}
-use lib.ListN.{length, drop, drop_of_length-le}
+use lib.ListN.{drop_of_length-le}
 use Rattle.head_fields.specs.Right.{right_indices}
 use Rattle.head_fields.proofs.Checks.{wrong-index, stream-index, silence_index}
 use Rattle.head_fields.proofs.right_indices.Goals as goal
+use Rattle.head_fields.proofs.right_indices.Goals.{then-index-n+else-index-ne255, else-index-n}
 
 pub loop-i-init : goal.loop-i-init
 loop-i-init c = (refl, omega arith)
@@ -33,10 +32,15 @@ pub loop-i-preserved : goal.loop-i-preserved
 loop-i-preserved c =
     let a = c.args in
     let e = c.wide-index.ensures.same in
-    ⊎_elim
-    (λ v. (silence_index a.n a.s.now c.loop-i.i (omega arith) (rw e at v.0.taken) (rw e at v.1.left) ∙ c.loop-i.invariant.0, omega arith))
-    (λ v. (stream-index a.n a.s.now c.loop-i.i (omega arith) (rw e at v.left) ∙ c.loop-i.invariant.0, omega arith))
-    c.if-index-n.branch
+    elim c.if-index-n.branch [
+      | then-index-n+else-index-ne255 w ↦ (
+        silence_index a.n a.s.now c.loop-i.i (omega arith) (rw e at w.if-index-n.true) (rw e at w.if-index-ne255.false)
+            ∙ c.loop-i.invariant.0,
+        omega arith,
+      )
+      | else-index-n w ↦
+          (stream-index a.n a.s.now c.loop-i.i (omega arith) (rw e at w.if-index-n.false) ∙ c.loop-i.invariant.0, omega arith)
+    ]
 
 pub returns : goal.returns
 unfolding right_indices

@@ -2,16 +2,9 @@
 use mathlib.Core.Path.{◌≡◌, sym, ◌∙◌}
 use Prim.Native.Nat.{◌+◌}
 use native.Mathlib.Omega.{arith}
-use borrow.Author.Rules.{rules}
-use lib.ListN.{length}
-use lib.Seq.{length-take-le}
 use Rattle.octets.proofs.Tests.{failed, held}
 use Rattle.head_fields.proofs.Checks.{wrong-channels, wrong-streams, indices_decide}
 use Rattle.head_fields.proofs.right_mapping.Goals as goal
-
--- the mapping has 255 places
-long : (c : goal.After-mapping-1) → length c.args.h.mapping ≡ 255
-long c = search rules
 
 pub returns-then-not-allowed_channels : goal.returns-then-not-allowed_channels
 returns-then-not-allowed_channels c =
@@ -25,12 +18,6 @@ returns-then-not-right_streams c =
     sym
     (wrong-streams c.args.h (held channels.ensures c.if-not-allowed_channels.false)
     (failed streams.ensures c.if-not-right_streams.true))
-
-pub slice_bounds-mapping-end : goal.slice_bounds-mapping-end
-slice_bounds-mapping-end c = omega (arith, long c.before.before, c.index_count-used.ensures.most)
-
-pub slice_bounds-right_indices-end : goal.slice_bounds-right_indices-end
-slice_bounds-right_indices-end c = sym (length-take-le _ _ (array_share_prefix_mapping c.before.before))
 
 pub returns : goal.returns
 returns c =

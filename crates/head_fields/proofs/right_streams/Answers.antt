@@ -2,7 +2,6 @@
 use mathlib.Core.Path.{◌≡◌, sym}
 use Prim.Native.Nat.{◌+◌}
 use native.Mathlib.Omega.{arith}
-use borrow.Author.Rules.{rules}
 use Rattle.head_fields.proofs.Checks.{no_stream, too_coupled, sum_decides}
 use Rattle.head_fields.proofs.right_streams.Goals as goal
 

@@ -1,6 +1,4 @@
 -- `head_fields::writable_head` meets its contract. Assumes nothing.
-use mathlib.Core.Path.{sym, ◌∙◌}
-use borrow.Author.Rules.{rules}
 use Rattle.octets.proofs.Tests.{failed, held}
 use Rattle.head_fields.specs.Right.{writable_head}
 use Rattle.head_fields.proofs.writable_head.Goals as goal

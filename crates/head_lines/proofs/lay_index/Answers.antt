@@ -1,6 +1,5 @@
 -- `head_lines::lay_index` meets its contract. Assumes nothing.
 use native.Mathlib.Omega.{arith}
-use borrow.Author.Rules.{rules}
 use lib.ListN.{length-append}
 use Rattle.text_put.specs.Marks.{space}
 use Rattle.text_put.proofs.Putting.{laid-put, laid_then}

@@ -1,8 +1,8 @@
 -- `head_lines::lay_spaced` meets its contract. The loop's invariant: what is left of the numbers. Assumes nothing.
 use mathlib.Core.List.{◌++◌}
-use Prim.Native.Nat.{◌+◌, ◌-◌}
+use Prim.Native.Nat.{◌+◌}
 use native.Mathlib.Omega.{arith}
-use lib.ListN.{length, get_or, drop, length-append}
+use lib.ListN.{get_or, drop, length-append}
 use Rattle.text_put.specs.Marks.{space}
 use Rattle.text_put.proofs.Filling.{Filling, filling_first, filling_next, filling_done}
 use Rattle.text_decimal.specs.Decimal.{decimal}

@@ -1,7 +1,6 @@
 -- `head_lines::put_entry` meets its contract: the number is made in a buffer of its own. Assumes nothing.
 use mathlib.Core.Path.{ap}
 use native.Mathlib.Omega.{arith}
-use borrow.Author.Rules.{rules}
 use mir.Facts.{to_z-of_z}
 use Rattle.text_put.specs.Marks.{space}
 use Rattle.text_put.proofs.Putting.{put-known, laid-put}

@@ -1,7 +1,6 @@
 -- `head_lines::put_gain` meets its contract: the end is made in a buffer of its own. Assumes nothing.
 use mathlib.Core.Path.{ap}
 use native.Mathlib.Omega.{arith}
-use borrow.Author.Rules.{rules}
 use lib.ListN.{length-append}
 use mir.Facts.{to_z-of_z}
 use Rattle.text_put.proofs.Putting.{laid-known}

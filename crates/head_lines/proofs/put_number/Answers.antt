@@ -1,7 +1,6 @@
 -- `head_lines::put_number` meets its contract: the end is made in a buffer of its own. Assumes nothing.
 use mathlib.Core.List.{◌++◌}
 use native.Mathlib.Omega.{arith}
-use borrow.Author.Rules.{rules}
 use Rattle.text_put.specs.Marks.{line_feed}
 use Rattle.text_put.proofs.Putting.{laid-put}
 use Rattle.text_decimal.specs.Decimal.{decimal}

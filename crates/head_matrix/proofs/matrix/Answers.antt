@@ -1,6 +1,5 @@
 -- `head_matrix::matrix` meets its contract. Assumes nothing.
 use mathlib.Core.Path.{sym, ap, ◌∙◌}
-use borrow.Author.Rules.{rules}
 use Rattle.refusal.specs.Numbers.{number_of}
 use Rattle.head_matrix.specs.Matrix.{told_size}
 use Rattle.head_matrix.proofs.Answers.{part_given, part_refused}

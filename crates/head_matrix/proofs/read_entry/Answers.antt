@@ -1,7 +1,6 @@
 -- `head_matrix::read_entry` meets its contract. Assumes nothing.
 use mathlib.Core.Path.{sym, ap, ◌∙◌}
 use Prim.Native.Nat.{ℕ}
-use borrow.Author.Rules.{rules}
 use Rattle.octets.specs.Octets.{Bytes}
 use Rattle.refusal.specs.Numbers.{number_of}
 use Rattle.head_matrix.specs.Matrix.{entry_at, told_size}

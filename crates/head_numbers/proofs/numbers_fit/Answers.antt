@@ -1,7 +1,6 @@
 -- `head_numbers::numbers_fit` meets its contract. The loop's invariant: what is left decides. Assumes nothing.
 use mathlib.Core.Path.{◌≡◌, refl, sym, ◌∙◌}
 use mathlib.Core.List.{[]}
-use Prim.Native.Nat.{◌-◌, ◌≤◌}
 use native.Mathlib.Omega.{arith}
 use lib.ListN.{drop, drop_of_length-le}
 use Rattle.head_numbers.specs.Numbers.{bounds as widths, all_below, fitting}

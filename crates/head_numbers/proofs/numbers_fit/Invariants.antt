@@ -1,11 +1,8 @@
 -- `head_numbers::numbers_fit` meets its contract. The loop's invariant: what is left decides. Assumes nothing.
-use mathlib.Core.Path.{◌≡◌, refl, sym, ◌∙◌}
-use mathlib.Core.List.{[]}
+use mathlib.Core.Path.{◌≡◌}
 use Prim.Native.Nat.{◌-◌, ◌≤◌}
-use native.Mathlib.Omega.{arith}
-use lib.ListN.{drop, drop_of_length-le}
+use lib.ListN.{drop}
 use Rattle.head_numbers.specs.Numbers.{bounds as widths, all_below, fitting}
-use Rattle.head_numbers.proofs.Below.{below-stop, below_next}
 use Rattle.head_numbers.proofs.numbers_fit.Given as goal
 
 abbrev pub invariant-loop-i : goal.invariant-loop-i

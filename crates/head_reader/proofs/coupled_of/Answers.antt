@@ -1,7 +1,6 @@
 -- `head_reader::coupled_of` meets its contract. Assumes nothing.
 use mathlib.Core.Path.{sym, ap, ◌∙◌}
 use Prim.Native.Nat.{ℕ, ◌-◌}
-use borrow.Author.Rules.{rules}
 use Rattle.head_families.specs.Families.{has_counts}
 use Rattle.head_reader.proofs.Places.{table-coupled, plain-coupled}
 use Rattle.head_reader.proofs.coupled_of.Goals as goal

@@ -1,5 +1,4 @@
 -- `head_reader::length_of` meets its contract. Assumes nothing.
-use borrow.Author.Rules.{rules}
 use Rattle.head_reader.specs.Reading.{length_of}
 use Rattle.head_reader.proofs.length_of.Goals as goal
 

@@ -1,6 +1,5 @@
 -- `head_reader::mapping_of` meets its contract: a copy of the table's indices, or the two of family 0. Assumes nothing.
 use mathlib.Core.Path.{◌≡◌, sym, ap, ap₂, ◌∙◌}
-use borrow.Author.Rules.{rules}
 use lib.ListN.{get_or, replicate}
 use Rattle.octets.specs.Octets.{Bytes, copied}
 use Rattle.head_families.specs.Families.{has_counts, index_count}
@@ -30,8 +29,8 @@ returns-then-has_counts c =
     let call = c.before.before in
     c.copy_at.ensures
     ∙ ap (copied (replicate 255 0) 0) c.part_of.ensures
-    ∙ from-table (bytes call) call.index_count-used.result call.index_count-used.ensures.most (used call)
-    (sym (counts call) ∙ c.if-has_counts.true)
+    ∙ from-table (bytes call.before.before.before.before) call.index_count-used.result call.index_count-used.ensures.most (used call.before.before.before.before)
+    (sym (counts call.before.before.before.before) ∙ c.if-has_counts.true)
 
 pub returns-then-used-gt1 : goal.returns-then-used-gt1
 returns-then-used-gt1 c =

@@ -1,6 +1,5 @@
 -- `head_reader::read_head` meets its contract: the first check that refuses decides. Assumes nothing.
 use mathlib.Core.Path.{sym, ap, ◌∙◌}
-use borrow.Author.Rules.{rules}
 use Rattle.refusal.specs.declared.Refusal.TheVariants.{BadHead, BadMapping}
 use Rattle.refusal.specs.Told.{gives}
 use Rattle.octets.proofs.Tests.{failed, held}

@@ -1,6 +1,5 @@
 -- `head_reader::streams_of` meets its contract. Assumes nothing.
 use mathlib.Core.Path.{sym, ap, ◌∙◌}
-use borrow.Author.Rules.{rules}
 use Rattle.head_families.specs.Families.{has_counts}
 use Rattle.head_reader.proofs.Places.{table-streams, plain-streams}
 use Rattle.head_reader.proofs.streams_of.Goals as goal

@@ -9,15 +9,6 @@ use Rattle.text_put.proofs.Putting.{put-laid}
 use Rattle.list_lines.specs.Lines.{entry_line}
 use Rattle.list_lines.proofs.Lines.{laid-entry}
 use Rattle.list_lines.proofs.put_entry.Goals as goal
-use Rattle.list_lines.proofs.put_entry.Lts as lts
-use Rattle.list_lines.proofs.put_entry.Tie as tie
-
-abbrev Else-lacks_entry : Type 0
-Else-lacks_entry = lts.Else1 tie.the-claims tie.handed_pre tie.handed_post
-
--- the line fits
-fits : (c : Else-lacks_entry) → let a = c.args in a.at + length (entry_line a.end a.samples a.frames a.kept) ≤ length a.out.now
-fits c = ltb-false _ _ (sym c.lacks_entry.ensures ∙ c.if-lacks_entry.false)
 
 pub lacks_entry-requires : goal.lacks_entry-requires
 lacks_entry-requires c = tt
@@ -42,8 +33,9 @@ shape_of-out c = omega arith
 
 pub returns : goal.returns
 returns c =
-    let test = c.before.before.before in
-    let a = test.args in
-    put-laid (fits test)
+    -- the line fits
+    let fits : let a = c.args in a.at + length (entry_line a.end a.samples a.frames a.kept) ≤ length a.out.now = ltb-false _ _ (sym c.lacks_entry.ensures ∙ c.if-lacks_entry.false) in
+    let a = c.args in
+    put-laid fits
     (laid-entry a.end a.samples a.frames a.kept
-    c.put_ended-second.ensures c.put_ended-third.ensures c.put_ended-fourth.ensures c.put_ended.ensures (fits test))
+    c.put_ended-second.ensures c.put_ended-third.ensures c.put_ended-fourth.ensures c.put_ended.ensures fits)

@@ -1,6 +1,5 @@
 -- `packet_frames::coded_length` meets its contract. Assumes nothing.
 use native.Mathlib.Omega.{arith}
-use borrow.Author.Rules.{rules}
 use Rattle.packet_frames.proofs.CodedLengths.{coded-end, coded-small, coded-cut, coded_large}
 use Rattle.packet_frames.proofs.coded_length.Goals as goal
 

@@ -1,13 +1,10 @@
 -- `packet_frames::coded_lengths` meets its contract. The loop's invariant: what is summed and what is left make the whole.
 -- Assumes nothing.
-use mathlib.Core.Path.{◌≡◌, sym, ◌∙◌}
-use Prim.Native.Nat.{◌-◌, ◌*◌, ◌≤◌}
+use mathlib.Core.Path.{sym, ◌∙◌}
 use native.Mathlib.Omega.{arith}
-use borrow.Author.Rules.{rules}
-use lib.ListN.{length, drop}
-use Rattle.packet_frames.specs.Frames.{frame_max, coded_times}
-use Rattle.packet_frames.specs.Code.{summed}
-use Rattle.packet_frames.proofs.CodedLengths.{missing, found, plus, times_begin, times_cut, times_more, times-done}
+use lib.ListN.{drop}
+use Rattle.packet_frames.specs.Frames.{frame_max}
+use Rattle.packet_frames.proofs.CodedLengths.{missing, found, times_begin, times_cut, times_more, times-done}
 use Rattle.packet_frames.proofs.coded_lengths.Goals as goal
 
 pub loop-i-init : goal.loop-i-init
@@ -42,12 +39,12 @@ loop-i-smaller c = omega arith
 
 pub loop-i-preserved : goal.loop-i-preserved
 loop-i-preserved c =
-    let got = c.in-Value.length-1.given in
+    let got = c.in-Value in
     let l = c.loop-i in
     let a = c.args in
     let s = a.s.now in
-    let one = found s frame_max got.1 c.coded_length.ensures in (
-      sym (times_more a.n l.i l.sum got.0.0 (drop l.place s) (drop got.0.1.0 s) c.loop-i-test.true one.told) ∙ l.invariant.0,
+    let one = found s frame_max got.is c.coded_length.ensures in (
+      sym (times_more a.n l.i l.sum got.length (drop l.place s) (drop got.next s) c.loop-i-test.true one.told) ∙ l.invariant.0,
       omega arith,
       one.within.inside,
       omega arith,

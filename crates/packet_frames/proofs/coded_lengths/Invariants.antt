@@ -1,13 +1,11 @@
 -- `packet_frames::coded_lengths` meets its contract. The loop's invariant: what is summed and what is left make the whole.
 -- Assumes nothing.
-use mathlib.Core.Path.{◌≡◌, sym, ◌∙◌}
+use mathlib.Core.Path.{◌≡◌}
 use Prim.Native.Nat.{◌-◌, ◌*◌, ◌≤◌}
-use native.Mathlib.Omega.{arith}
-use borrow.Author.Rules.{rules}
 use lib.ListN.{length, drop}
 use Rattle.packet_frames.specs.Frames.{frame_max, coded_times}
 use Rattle.packet_frames.specs.Code.{summed}
-use Rattle.packet_frames.proofs.CodedLengths.{missing, found, plus, times_begin, times_cut, times_more, times-done}
+use Rattle.packet_frames.proofs.CodedLengths.{plus}
 use Rattle.packet_frames.proofs.coded_lengths.Given as goal
 
 abbrev pub invariant-loop-i : goal.invariant-loop-i

@@ -1,9 +1,8 @@
 -- `packet_frames::counted_layout` meets its contract. Assumes nothing.
 use mathlib.Core.Path.{◌≡◌, sym, ap}
-use Prim.Native.Nat.{ℕ, ◌≤◌}
+use Prim.Native.Nat.{ℕ, ◌*◌, ◌%◌, ◌<◌, ◌≤◌}
 use native.Mathlib.Nat.{lt_of_le_of_lt}
 use native.Mathlib.Omega.{arith}
-use borrow.Author.Rules.{rules}
 use lib.Dec.{lit<}
 use lib.ListN.{length, get_or, drop}
 use Rattle.octets.specs.Octets.{Bytes}
@@ -33,6 +32,10 @@ module _ (c : After-frame_samples-samples) where
 
   long : 2 ≤ length packet
   long = c.if-s-lt2.false
+
+-- too many samples, by what the count byte and the samples are
+over_by : {c b n k : ℕ} → c ≡ b → n ≡ k → 5760 < c % 64 * n → 5760 < b % 64 * k
+over_by e g h = rw (e, g) at h
 
 -- the padding as it was found
 module _ (c : After-padding_length) where
@@ -68,7 +71,7 @@ returns-then-count-samples-gt-SAMPLES_MAX c =
       told =
           sym
           (too_much (length (packet f)) (packet f) (long f) (rw (byte f) at c.if-count-eq0.false)
-          (rw (byte f, f.frame_samples-samples.ensures) at c.if-count-samples-gt-SAMPLES_MAX.true));
+          (over_by (byte f) f.frame_samples-samples.ensures c.if-count-samples-gt-SAMPLES_MAX.true));
       sound = tt;
     }
 
@@ -86,12 +89,12 @@ returns-then-c-ne1 c =
 
 pub returns-in_default : goal.returns-in_default
 returns-in_default c =
-    let p = c.before.before.before in
+    let p = c.before.before in
     record { told = found p (ap (told_found (packet (counted p))) c.in_default.is); sound = tt }
 
 pub returns : goal.returns
 returns c =
-    let p = c.before.before.before.before in
+    let p = c.before.before in
     let f = counted p in
     let e = c.in-Value.is in
     let within = rw e at p.padding_length.ensures.within in

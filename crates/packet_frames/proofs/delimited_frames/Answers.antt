@@ -2,7 +2,6 @@
 use Prim.Native.Nat.{◌*◌, ◌≤◌}
 use native.Mathlib.Nat.{mul-le-mul}
 use native.Mathlib.Omega.{arith}
-use borrow.Author.Rules.{rules}
 use Rattle.packet_frames.specs.Frames.{frame_max}
 use Rattle.packet_frames.proofs.CodedLengths.{missing, found}
 use Rattle.packet_frames.proofs.Framing.{each-cut, each_placed, all-cut, all_placed}
@@ -30,10 +29,10 @@ returns-then-vary c =
     let a = c.args in
     let s = a.s.now in
     let some = found s 80325 c.in-Value.is c.coded_lengths.ensures in
-    let n = c.in-Value.sum-1.given.0 in
+    let n = c.in-Value in
     let end = c.placed_frames.ensures in
     record {
-      told = rw c.if-vary.true (each_placed s a.at a.count a.padding n.0 n.1.0 some.told end.told);
+      told = rw c.if-vary.true (each_placed s a.at a.count a.padding n.sum n.next some.told end.told);
       within = end.within;
     }
 
@@ -66,9 +65,9 @@ returns c =
     let a = c.args in
     let s = a.s.now in
     let one = found s frame_max c.in-Value-coded_length.is c.coded_length.ensures in
-    let n = c.in-Value-coded_length.length-1.given.0 in
+    let n = c.in-Value-coded_length in
     let end = c.placed_frames-2.ensures in
     record {
-      told = rw c.if-vary.false (all_placed s a.at a.count a.padding n.0 n.1.0 one.told end.told);
+      told = rw c.if-vary.false (all_placed s a.at a.count a.padding n.length n.next one.told end.told);
       within = end.within;
     }

@@ -1,6 +1,5 @@
 -- `packet_frames::equal_frames` meets its contract. Assumes nothing.
 use native.Mathlib.Omega.{arith}
-use borrow.Author.Rules.{rules}
 use Rattle.packet_frames.proofs.Framing.{equal-short, equal_uneven, equal-long, equal-fits}
 use Rattle.packet_frames.proofs.equal_frames.Goals as goal
 

@@ -1,7 +1,6 @@
 -- `packet_frames::layout_of` meets its contract: by the code in the first byte. Assumes nothing.
 use mathlib.Core.Path.{sym, ap, ◌∙◌}
 use native.Mathlib.Omega.{arith}
-use borrow.Author.Rules.{rules}
 use lib.ListN.{length}
 use Rattle.packet_frames.specs.Code.{plain_of}
 use Rattle.packet_frames.proofs.Shapes.{some, nothing, code_0, code_1, code_2, code_3}

@@ -1,7 +1,6 @@
 -- `packet_frames::packet_frames` meets its contract: by how the frames lie. Assumes nothing.
 use mathlib.Core.Path.{◌≡◌, sym, ap, ◌∙◌}
 use mathlib.Core.Bool.{Bool, true, false}
-use borrow.Author.Rules.{rules}
 use lib.ListN.{drop}
 use Rattle.octets.specs.Octets.{Bytes}
 use Rattle.packet_frames.specs.declared.Layout.{Layout}
@@ -14,7 +13,7 @@ use Rattle.packet_frames.proofs.packet_frames.Lts as lts
 use Rattle.packet_frames.proofs.packet_frames.Tie as tie
 
 abbrev In-Frames : Type 0
-In-Frames = lts.After-known_told tie.the-claims tie.handed_pre tie.handed_post
+In-Frames = lts.Past-After-known_told tie.the-claims tie.handed_pre tie.handed_post
 
 -- what is known of the layout where its fields are bound
 module _ (c : In-Frames) where
@@ -39,11 +38,11 @@ module _ (c : In-Frames) where
       ∙ ap (λ (self : Bool). outline (parse self packet)) (sym d)
 
 pub delimited_frames-requires : goal.delimited_frames-requires
-delimited_frames-requires c = let k = sound c.before.before.before in record { few = k.few; inside = k.inside }
+delimited_frames-requires c = let k = sound c.before.before in record { few = k.few; inside = k.inside }
 
 pub returns-then-delimited : goal.returns-then-delimited
 returns-then-delimited c =
-    let l = c.before.before.before.before in
+    let l = c.before.before.before in
     record {
       told =
           c.delimited_frames.ensures.told
@@ -53,16 +52,16 @@ returns-then-delimited c =
     }
 
 pub varied_frames-requires : goal.varied_frames-requires
-varied_frames-requires c = let k = sound c.before.before.before.before in record { some = k.some; few = k.few; inside = k.inside }
+varied_frames-requires c = let k = sound c.before.before.before in record { some = k.some; few = k.few; inside = k.inside }
 
 pub returns-then-vary : goal.returns-then-vary
 returns-then-vary c =
-    let l = c.before.before.before.before.before in
+    let l = c.before.before.before.before in
     let call = c.varied_frames.ensures in
     record { told = plainly l c.if-delimited.false c.if-vary.true call.told; within = call.within }
 
 pub equal_frames-requires : goal.equal_frames-requires
-equal_frames-requires c = let k = sound c.before.before.before.before in record { some = k.some; few = k.few; inside = k.inside }
+equal_frames-requires c = let k = sound c.before.before.before in record { some = k.some; few = k.few; inside = k.inside }
 
 pub returns-in-Illegal : goal.returns-in-Illegal
 returns-in-Illegal c =
@@ -78,6 +77,6 @@ returns-in-Illegal c =
 
 pub returns-else-vary : goal.returns-else-vary
 returns-else-vary c =
-    let l = c.before.before.before.before.before in
+    let l = c.before.before.before.before in
     let call = c.equal_frames.ensures in
     record { told = plainly l c.if-delimited.false c.if-vary.false call.told; within = call.within }

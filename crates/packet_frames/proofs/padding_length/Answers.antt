@@ -1,16 +1,12 @@
 -- `packet_frames::padding_length` meets its contract. The loop's invariant: what is counted and what is left make the whole.
 -- Assumes nothing.
-use mathlib.Core.Path.{◌≡◌, refl, sym, ◌∙◌}
-use Prim.Native.Nat.{◌-◌, ◌≤◌}
+use mathlib.Core.Path.{refl, sym, ◌∙◌}
 use native.Mathlib.Omega.{arith}
-use lib.ListN.{length, drop}
-use Rattle.packet_frames.specs.Frames.{padding_from}
-use Rattle.packet_frames.specs.Code.{capped, padding_in}
+use lib.ListN.{length}
+use Rattle.packet_frames.specs.Code.{padding_in}
 use Rattle.packet_frames.proofs.CodedLengths.{Padding, padding-cut, padding-ends, padding-over, padding-goes_on, padding-above}
-use Rattle.packet_frames.proofs.padding_length.Reads as reads
 use Rattle.packet_frames.proofs.padding_length.Lts as lts
 use Rattle.packet_frames.proofs.padding_length.Tie as tie
-use Rattle.octets.proofs.wide.Reads as wide-reads
 use Rattle.packet_frames.proofs.padding_length.Goals as goal
 use Rattle.packet_frames.proofs.padding_length.Lts as lts
 use Rattle.packet_frames.proofs.padding_length.Tie as tie
@@ -19,11 +15,11 @@ abbrev After-wide-v : Type 0
 After-wide-v = lts.After-wide tie.the-claims tie.handed_pre tie.handed_post goal.the-invariant-loop-place goal.the-decreases-loop-place
 
 turn : (w : After-wide-v)
-    → let l = w.before.before.before.loop in
+    → let l = w.before.before.before.loop-place in
     let a = w.before.before.before.before.before.args in
     let s = a.s.now in
-    Padding s (padding_in s a.at) l.bytes l.place w.wide.result
-turn w = record { inside = w.before.before.loop-test.true; byte = w.wide.ensures.same; left = w.before.before.before.loop.invariant.0 }
+    Padding s (padding_in s a.at) l.bytes l.place w.wide-v.result
+turn w = record { inside = w.before.before.loop-place-test.true; byte = w.wide-v.ensures.same; left = w.before.before.before.loop-place.invariant.0 }
 
 pub loop-place-init : goal.loop-place-init
 loop-place-init c = (refl, omega arith)

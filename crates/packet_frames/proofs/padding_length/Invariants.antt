@@ -1,15 +1,10 @@
 -- `packet_frames::padding_length` meets its contract. The loop's invariant: what is counted and what is left make the whole.
 -- Assumes nothing.
-use mathlib.Core.Path.{◌≡◌, refl, sym, ◌∙◌}
+use mathlib.Core.Path.{◌≡◌}
 use Prim.Native.Nat.{◌-◌, ◌≤◌}
-use native.Mathlib.Omega.{arith}
 use lib.ListN.{length, drop}
 use Rattle.packet_frames.specs.Frames.{padding_from}
 use Rattle.packet_frames.specs.Code.{capped, padding_in}
-use Rattle.packet_frames.proofs.CodedLengths.{Padding, padding-cut, padding-ends, padding-over, padding-goes_on, padding-above}
-use Rattle.packet_frames.proofs.padding_length.Reads as reads
-use Rattle.packet_frames.proofs.padding_length.Lts as lts
-use Rattle.octets.proofs.wide.Reads as wide-reads
 use Rattle.packet_frames.proofs.padding_length.Given as goal
 
 abbrev pub invariant-loop-place : goal.invariant-loop-place

@@ -1,7 +1,6 @@
 -- `packet_frames::placed_frames` meets its contract. Assumes nothing.
 use Prim.Native.Nat.{◌+◌, ◌-◌, ◌≤◌, ◌<◌}
 use native.Mathlib.Omega.{arith}
-use borrow.Author.Rules.{rules}
 use lib.ListN.{length}
 use Rattle.octets.proofs.Tests.{is_below, not-below}
 use Rattle.packet_frames.proofs.Framing.{placed-short, placed-fits}

@@ -1,5 +1,4 @@
 -- `packet_reader::is_single` meets its contract. Assumes nothing.
-use borrow.Author.Rules.{rules}
 use Rattle.packet_reader.specs.Streams.{is_single}
 use Rattle.packet_reader.proofs.is_single.Goals as goal
 

@@ -1,6 +1,5 @@
 -- `packet_reader::made_of` meets its contract. Assumes nothing.
 use native.Mathlib.Nat.{lt_of_le_of_lt}
-use borrow.Author.Rules.{rules}
 use lib.Dec.{lit<}
 use Rattle.packet_toc.proofs.Samples.{frame-length}
 use Rattle.packet_frames.proofs.Samples.{product}

@@ -2,7 +2,6 @@
 use mathlib.Core.Path.{ap, ◌∙◌}
 use Prim.Native.Nat.{ℕ}
 use native.Mathlib.Nat.{lt_of_le_of_lt}
-use borrow.Author.Rules.{rules}
 use lib.Dec.{lit<}
 use lib.ListN.{drop}
 use Rattle.octets.specs.Octets.{Bytes}
@@ -16,10 +15,13 @@ use Rattle.packet_reader.proofs.read_opus.Goals as goal
 use Rattle.packet_reader.proofs.read_opus.Lts as lts
 use Rattle.packet_reader.proofs.read_opus.Tie as tie
 
+abbrev Arm : Type 0
+Arm = lts.Past-After-known_told tie.the-claims tie.handed_pre tie.handed_post
+
 -- the frames that were found
-module _ (c : goal.In-Frames) where
-  abbrev first : goal.After-byte_at-toc
-  first = c.before.before.before
+module _ (c : Arm) where
+  abbrev first : lts.After-byte_at tie.the-claims tie.handed_pre tie.handed_post
+  first = c.before.before
 
   abbrev packet : Bytes
   packet = first.args.s.now
@@ -34,22 +36,22 @@ returns-in_default c =
     record { told = no_contents_lem a.s.now (parse a.delimited a.s.now) none; inside = tt }
 
 pub overflow_cast-count : goal.overflow_cast-count
-overflow_cast-count c = record { fits = lt_of_le_of_lt (within c.before.before).most (lit< tt) }
+overflow_cast-count c = record { fits = lt_of_le_of_lt (within c.before).most (lit< tt) }
 
 pub made_of-requires : goal.made_of-requires
-made_of-requires c = (within c.before.before).most
+made_of-requires c = (within c.before).most
 
 pub returns : goal.returns
 returns c =
-    let k = c.before.before.before in
+    let k = c.before.before in
     let a = (first k).args in
-    let got = k.in-Frames.count-1.given in
-    let end : Bytes = drop got.0.1.1.0 (packet k) in
-    let told = frames-told (packet k) k.packet_frames.ensures got.1 in
+    let got = k.in-Frames in
+    let end : Bytes = drop got.next (packet k) in
+    let told = frames-told (packet k) k.packet_frames.ensures got.is in
     record {
       told =
           ap (λ (x : Contents). value x end)
-          (c.made_of.ensures ∙ ap (λ (toc : ℕ). made_of toc got.0.0 got.0.1.0) (first k).byte_at-toc.ensures)
+          (c.made_of.ensures ∙ ap (λ (toc : ℕ). made_of toc got.count got.silent) (first k).byte_at-toc.ensures)
           ∙ its_contents (packet k) (parse a.delimited (packet k)) _ end told;
       inside = (within k).inside;
     }

@@ -1,6 +1,5 @@
 -- `packet_reader::read_packet` meets its contract. Assumes nothing.
 use mathlib.Core.Path.{◌≡◌, sym, ap, ◌∙◌}
-use borrow.Author.Rules.{rules}
 use Rattle.packet_reader.specs.declared.Lengths.{Lengths}
 use Rattle.packet_reader.specs.Streams.{read_packet}
 use Rattle.packet_reader.specs.Code.{told_lengths}
@@ -27,10 +26,10 @@ pub returns-then-streams-gt255 : goal.returns-then-streams-gt255
 returns-then-streams-gt255 c = let a = c.args in sym (too_many_streams a.bytes.now a.streams c.if-streams-eq0.false c.if-streams-gt255.true)
 
 pub returns-in-Broken : goal.returns-in-Broken
-returns-in-Broken c = told c.before.before.before c.in-Broken.is
+returns-in-Broken c = told c.before.before c.in-Broken.is
 
 pub returns-in-Mixed : goal.returns-in-Mixed
-returns-in-Mixed c = told c.before.before.before c.in-Mixed.is
+returns-in-Mixed c = told c.before.before c.in-Mixed.is
 
 pub returns-in-Same : goal.returns-in-Same
-returns-in-Same c = told c.before.before.before.before c.in-Same.is
+returns-in-Same c = told c.before.before c.in-Same.is

@@ -1,5 +1,4 @@
 -- `packet_reader::with_first` meets its contract. Assumes nothing.
-use borrow.Author.Rules.{rules}
 use borrow.Author.Tests.{eq-eqb, ne_eqb}
 use Rattle.packet_reader.proofs.with_first.Goals as goal
 

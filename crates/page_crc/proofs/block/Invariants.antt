@@ -1,9 +1,7 @@
 -- `page_crc::block` meets its contract, a byte a turn. Assumes nothing.
 use Prim.Native.Nat.{◌-◌}
-use native.Mathlib.Omega.{arith}
-use borrow.Author.Rules.{rules}
 use Rattle.page_crc_tables.specs.Table.{entry_in}
-use Rattle.page_crc.proofs.Turns.{Block, block_starts, block_turn, block_ends}
+use Rattle.page_crc.proofs.Turns.{Block}
 use Rattle.page_crc.proofs.block.Given as goal
 
 abbrev pub invariant-loop-j : goal.invariant-loop-j

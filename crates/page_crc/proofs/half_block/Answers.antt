@@ -1,10 +1,7 @@
 -- `page_crc::half_block` meets its contract, a byte a turn of its two loops. Assumes nothing.
 use mathlib.Core.Path.{◌≡◌}
-use Prim.Native.Nat.{◌-◌, ◌≤◌}
 use native.Mathlib.Omega.{arith}
-use borrow.Author.Rules.{rules}
-use Rattle.page_crc_tables.specs.Table.{half_entry_in}
-use Rattle.page_crc.proofs.Turns.{Block, block_starts, block_turn, block_ends}
+use Rattle.page_crc.proofs.Turns.{block_starts, block_turn, block_ends}
 use Rattle.page_crc.proofs.half_block.Goals as goal
 
 pub loop-j-init : goal.loop-j-init

@@ -1,6 +1,5 @@
 -- `page_crc::half_entry` meets its contract: it is what the definition looks up. Assumes nothing.
 use mathlib.Core.Path.{refl}
-use borrow.Author.Rules.{rules}
 use Rattle.page_crc_tables.specs.Table.{half_entry_in}
 use Rattle.page_crc.proofs.half_entry.Goals as goal
 

@@ -1,9 +1,6 @@
 -- `page_crc::half_update` meets its contract, a block a turn. Assumes nothing.
-use Prim.Native.Nat.{◌-◌}
 use native.Mathlib.Omega.{arith}
-use lib.ListN.{length}
-use Rattle.page_crc_tables.specs.Table.{half_entry_in}
-use Rattle.page_crc.proofs.Turns.{Left, left-starts, left_16, left_8, left_4, left_2, left_1, left-ends}
+use Rattle.page_crc.proofs.Turns.{left-starts, left_16, left_8, left_4, left_2, left_1, left-ends}
 use Rattle.page_crc.proofs.half_update.Goals as goal
 
 pub loop-i-init : goal.loop-i-init
@@ -13,7 +10,7 @@ pub overflow_sub-left : goal.overflow_sub-left
 overflow_sub-left c = omega arith
 
 pub half_block-x-requires : goal.half_block-x-requires
-half_block-x-requires c = (omega arith, omega arith)
+half_block-x-requires c = record { m_bound = omega arith; m_in_bounds = omega arith }
 
 pub overflow_add-i : goal.overflow_add-i
 overflow_add-i c = omega arith
@@ -25,7 +22,7 @@ pub loop-i-preserved-then-left-ge16 : goal.loop-i-preserved-then-left-ge16
 loop-i-preserved-then-left-ge16 c = left_16 (omega arith) c.loop-i.invariant c.half_block-x.ensures
 
 pub half_block-x-requires-then-left-ge8 : goal.half_block-x-requires-then-left-ge8
-half_block-x-requires-then-left-ge8 c = (omega arith, omega arith)
+half_block-x-requires-then-left-ge8 c = record { m_bound = omega arith; m_in_bounds = omega arith }
 
 pub overflow_add-i-then-left-ge8 : goal.overflow_add-i-then-left-ge8
 overflow_add-i-then-left-ge8 c = omega arith
@@ -37,7 +34,7 @@ pub loop-i-preserved-then-left-ge8 : goal.loop-i-preserved-then-left-ge8
 loop-i-preserved-then-left-ge8 c = left_8 (omega arith) (omega arith) c.loop-i.invariant c.half_block-x-then-left-ge8.ensures
 
 pub half_block-x-requires-then-left-ge4 : goal.half_block-x-requires-then-left-ge4
-half_block-x-requires-then-left-ge4 c = (omega arith, omega arith)
+half_block-x-requires-then-left-ge4 c = record { m_bound = omega arith; m_in_bounds = omega arith }
 
 pub overflow_add-i-then-left-ge4 : goal.overflow_add-i-then-left-ge4
 overflow_add-i-then-left-ge4 c = omega arith
@@ -49,7 +46,7 @@ pub loop-i-preserved-then-left-ge4 : goal.loop-i-preserved-then-left-ge4
 loop-i-preserved-then-left-ge4 c = left_4 (omega arith) (omega arith) c.loop-i.invariant c.half_block-x-then-left-ge4.ensures
 
 pub half_block-x-requires-then-left-ge2 : goal.half_block-x-requires-then-left-ge2
-half_block-x-requires-then-left-ge2 c = (omega arith, omega arith)
+half_block-x-requires-then-left-ge2 c = record { m_bound = omega arith; m_in_bounds = omega arith }
 
 pub overflow_add-i-then-left-ge2 : goal.overflow_add-i-then-left-ge2
 overflow_add-i-then-left-ge2 c = omega arith
@@ -61,7 +58,7 @@ pub loop-i-preserved-then-left-ge2 : goal.loop-i-preserved-then-left-ge2
 loop-i-preserved-then-left-ge2 c = left_2 (omega arith) (omega arith) c.loop-i.invariant c.half_block-x-then-left-ge2.ensures
 
 pub half_block-x-requires-else-left-ge2 : goal.half_block-x-requires-else-left-ge2
-half_block-x-requires-else-left-ge2 c = (omega arith, omega arith)
+half_block-x-requires-else-left-ge2 c = record { m_bound = omega arith; m_in_bounds = omega arith }
 
 pub overflow_add-i-else-left-ge2 : goal.overflow_add-i-else-left-ge2
 overflow_add-i-else-left-ge2 c = omega arith

@@ -1,9 +1,8 @@
 -- `page_crc::half_update` meets its contract, a block a turn. Assumes nothing.
 use Prim.Native.Nat.{◌-◌}
-use native.Mathlib.Omega.{arith}
 use lib.ListN.{length}
 use Rattle.page_crc_tables.specs.Table.{half_entry_in}
-use Rattle.page_crc.proofs.Turns.{Left, left-starts, left_16, left_8, left_4, left_2, left_1, left-ends}
+use Rattle.page_crc.proofs.Turns.{Left}
 use Rattle.page_crc.proofs.half_update.Given as goal
 
 abbrev pub invariant-loop-i : goal.invariant-loop-i

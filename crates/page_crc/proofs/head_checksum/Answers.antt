@@ -1,5 +1,4 @@
 -- `page_crc::head_checksum` meets its contract: its blocks are those of the definition. Assumes nothing.
-use borrow.Author.Rules.{rules}
 use Rattle.page_crc.proofs.Page.{head-blocks}
 use Rattle.page_crc.proofs.head_checksum.Goals as goal
 

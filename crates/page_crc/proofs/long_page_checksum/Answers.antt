@@ -1,6 +1,5 @@
 -- `page_crc::long_page_checksum` meets its contract: with the right tables slicing gives the page's checksum. Assumes nothing.
 use mathlib.Core.Path.{◌∙◌}
-use borrow.Author.Rules.{rules}
 use Rattle.page_crc.proofs.Page.{page_sliced_right}
 use Rattle.page_crc.proofs.long_page_checksum.Goals as goal
 

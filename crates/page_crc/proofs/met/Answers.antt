@@ -2,7 +2,6 @@
 use mathlib.Core.Path.{ap}
 use Prim.Native.Nat.{ℕ, ◌+◌, ◌/◌, ◌^◌, ◌<◌}
 use native.Mathlib.Omega.{arith}
-use borrow.Author.Rules.{rules}
 use lib.Bits.{bit_xor, xor_lt}
 use lib.ListN.{get_or}
 use Rattle.page_crc.proofs.met.Goals as goal
@@ -14,7 +13,7 @@ Start = lts.Start tie.the-claims tie.handed_pre tie.handed_post
 
 module _ (c : goal.After-shared_slice_known-2-1) where
   abbrev start : Start
-  start = c.before.before.before
+  start = c.before.before.before.before
 
   abbrev found : ℕ
   found = get_or start.args.s.now (start.args.at + start.args.k) 0

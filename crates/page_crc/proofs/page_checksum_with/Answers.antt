@@ -1,7 +1,6 @@
 -- `page_crc::page_checksum_with` meets its contract: the ends of the field, cut to the slice's length, give the parts of
 -- the definition. Assumes nothing.
 use native.Mathlib.Omega.{arith}
-use borrow.Author.Rules.{rules}
 use lib.ListN.{length-take}
 use Rattle.page_crc.proofs.Page.{parts, whole}
 use Rattle.page_crc.proofs.page_checksum_with.Goals as goal

@@ -1,6 +1,5 @@
 -- `page_crc::short_checksum` meets its contract: with the right tables slicing gives the checksum. Assumes nothing.
 use mathlib.Core.Path.{◌∙◌}
-use borrow.Author.Rules.{rules}
 use lib.Dec.{lit<}
 use Rattle.page_crc_tables.proofs.Entries.{whole_by_halves}
 use Rattle.page_crc.proofs.Slice.{sliced_right}

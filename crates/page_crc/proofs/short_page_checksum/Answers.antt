@@ -1,7 +1,6 @@
 -- `page_crc::short_page_checksum` meets its contract: the parts of the definition, with the right tables. Assumes nothing.
 use mathlib.Core.Path.{◌∙◌}
 use native.Mathlib.Omega.{arith}
-use borrow.Author.Rules.{rules}
 use lib.ListN.{length-take}
 use Rattle.page_crc_tables.proofs.Entries.{whole_by_halves}
 use Rattle.page_crc.proofs.Page.{parts, page_sliced_right}

@@ -1,13 +1,13 @@
 -- `page_pieces::pieces_of` meets its contract: `Turns.antt` has the loop's invariant and a turn's two ways.
 -- Assumes nothing.
 use mathlib.Core.Path.{◌≡◌, sym, ◌∙◌}
-use mathlib.Core.Logic.{⊎_elim}
 use Prim.Native.Nat.{ℕ, ◌-◌, ◌+◌, ◌<◌, ◌≤◌, min}
 use native.Mathlib.Omega.{arith}
 use lib.ListN.{length, get_or, set, take, length-take}
 use lib.Seq.{get_or-take}
 use Rattle.page_pieces.proofs.Turns.{Done, begins, goes_on, ends, done-count, done-lengths, done-unfinished}
 use Rattle.page_pieces.proofs.pieces_of.Goals as goal
+use Rattle.page_pieces.proofs.pieces_of.Goals.{then-v-lt255, else-v-lt255}
 
 pub least-end-requires : goal.least-end-requires
 least-end-requires c = tt
@@ -47,18 +47,17 @@ loop-i-preserved c =
     let size : length (take 255 s) ≡ min 255 (length s) = length-take 255 s in
     let in_l : at.i < length (take 255 s) = omega arith in
     let e : v ≡ get_or (take 255 s) at.i 0 = c.wide-v.ensures.same ∙ sym (get_or-take 255 s at.i 0 (omega arith)) in
-    ⊎_elim
-    (λ w.
+    elim c.if-v-lt255.branch [
+    then-v-lt255 w ↦
     let a : c.if-v-lt255.lengths ≡ set at.lengths at.count (at.bytes + v) = cc in
     let m : c.if-v-lt255.count ≡ at.count + 1 = cc in
     let z : c.if-v-lt255.bytes ≡ 0 = cc in
-    rw (a, m, z) (ends at.invariant e in_l w.0.taken (omega arith)))
-    (λ w.
+    rw (a, m, z) (ends at.invariant e in_l w.if-v-lt255.true (omega arith))
+    | else-v-lt255 w ↦
     let a : c.if-v-lt255.lengths ≡ at.lengths = cc in
     let m : c.if-v-lt255.count ≡ at.count = cc in
     let z : c.if-v-lt255.bytes ≡ at.bytes + v = cc in
-    rw (a, m, z) (goes_on at.invariant e in_l w.0.left c.wide-v.ensures.most))
-    c.if-v-lt255.branch
+    rw (a, m, z) (goes_on at.invariant e in_l w.if-v-lt255.false c.wide-v.ensures.most) ]
 
 pub returns : goal.returns
 returns c =

@@ -1,7 +1,6 @@
 -- `page_writer::renew_checksum` meets its contract. Assumes nothing.
 use mathlib.Core.Path.{ap, ◌∙◌}
 use Prim.Native.Nat.{ℕ}
-use borrow.Author.Rules.{rules}
 use Rattle.octets.specs.Octets.{copied}
 use Rattle.octets.specs.Numbers.{octets}
 use Rattle.page_layout.specs.Places.{checksum_at}

@@ -1,5 +1,4 @@
 -- `page_writer::start_of` meets its contract: byte by byte. Assumes nothing.
-use borrow.Author.Rules.{rules}
 use Rattle.octets.specs.Numbers.{octets}
 use Rattle.page_writer.specs.Writing.{start_of}
 use Rattle.page_writer.proofs.start_of.Goals as goal

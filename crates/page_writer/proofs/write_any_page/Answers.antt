@@ -1,17 +1,11 @@
 -- `page_writer::write_any_page` meets its contract: the first check that refuses decides. Assumes nothing.
-use Prim.Native.Nat.{◌≤◌}
 use native.Mathlib.Omega.{arith}
-use borrow.Author.Rules.{rules}
 use lib.ListN.{length}
 use Rattle.octets.proofs.Tests.{failed, held}
 use Rattle.refusal.specs.declared.Refusal.TheVariants.{ShortOutput, UnfitFields}
 use Rattle.page_lacing.proofs.Bodies.{body-few}
 use Rattle.page_writer.proofs.Writing.{no_body, short-output, any_writable, refused, wrote}
 use Rattle.page_writer.proofs.write_any_page.Goals as goal
-
--- the lacing values are few
-few : (c : goal.Else-not-is_body) → length c.args.lacing.now ≤ 255
-few c = body-few _ _ (held c.is_body.ensures c.if-not-is_body.false)
 
 pub returns-then-not-is_body : goal.returns-then-not-is_body
 returns-then-not-is_body c =
@@ -20,10 +14,10 @@ returns-then-not-is_body c =
     (no_body a.lacing.now a.body.now (length a.out.now) (failed c.is_body.ensures c.if-not-is_body.true))
 
 pub overflow_add-size : goal.overflow_add-size
-overflow_add-size c = omega (arith, few c)
+overflow_add-size c = omega (arith, body-few _ _ (held c.is_body.ensures c.if-not-is_body.false))
 
 pub overflow_add-size-2 : goal.overflow_add-size-2
-overflow_add-size-2 c = omega (arith, few c)
+overflow_add-size-2 c = omega (arith, body-few _ _ (held c.is_body.ensures c.if-not-is_body.false))
 
 pub returns-then-out-size : goal.returns-then-out-size
 returns-then-out-size c =
@@ -32,7 +26,7 @@ returns-then-out-size c =
     (short-output a.lacing.now a.body.now (length a.out.now) (held c.is_body.ensures c.if-not-is_body.false) c.if-out-size.true)
 
 pub put_page-requires : goal.put_page-requires
-put_page-requires c = record { lacing_len_bound = few c.before.before.before; body_in_bounds = omega arith }
+put_page-requires c = record { lacing_len_bound = body-few _ _ (held c.is_body.ensures c.if-not-is_body.false); body_in_bounds = omega arith }
 
 pub returns : goal.returns
 returns c =

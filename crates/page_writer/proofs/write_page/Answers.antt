@@ -1,5 +1,4 @@
 -- `page_writer::write_page` meets its contract: with flags of at most 7 the checks are those for any flags. Assumes nothing.
-use borrow.Author.Rules.{rules}
 use Rattle.page_writer.proofs.Writing.{flags-refused, flags_taken}
 use Rattle.page_writer.proofs.write_page.Goals as goal
 

@@ -11,9 +11,6 @@ use Rattle.refusal.specs.Told.{gives}
 use Rattle.tags_comment.proofs.Gain.{all_after, without-equals, no_gain, gain-there}
 use Rattle.tags_comment.proofs.comment_gain.Goals as goal
 
-value : (c : goal.After-part_of-value) → c.part_of-value.result.now ≡ drop (c.equals_place-place.result + 1) c.args.c.now
-value c = c.part_of-value.ensures ∙ all_after (c.equals_place-place.result + 1) c.args.c.now
-
 pub returns-then-place-c : goal.returns-then-place-c
 returns-then-place-c c =
     let place = c.equals_place-place in
@@ -21,10 +18,10 @@ returns-then-place-c c =
 
 pub returns-then-not-right_gain : goal.returns-then-not-right_gain
 returns-then-not-right_gain c =
-    let part = c.before.before.before in
-    let place = part.equals_place-place in
+    let value : c.part_of-value.result.now ≡ drop (c.equals_place-place.result + 1) c.args.c.now = c.part_of-value.ensures ∙ all_after (c.equals_place-place.result + 1) c.args.c.now in
+    let place = c.equals_place-place in
     sym
-    (no_gain part.args.c.now place.result place.ensures part.part_of-value.result.now part.if-place-c.false (value part)
+    (no_gain c.args.c.now place.result place.ensures c.part_of-value.result.now c.if-place-c.false value
     (failed c.right_gain.ensures c.if-not-right_gain.true))
 
 pub gain_bits-requires : goal.gain_bits-requires
@@ -32,10 +29,10 @@ gain_bits-requires c = held c.right_gain.ensures c.if-not-right_gain.false
 
 pub returns : goal.returns
 returns c =
-    let part = c.before.before.before in
-    let place = part.equals_place-place in
+    let value : c.part_of-value.result.now ≡ drop (c.equals_place-place.result + 1) c.args.c.now = c.part_of-value.ensures ∙ all_after (c.equals_place-place.result + 1) c.args.c.now in
+    let place = c.equals_place-place in
     let kept : to_z w16 (of_z w16 c.signed16.result) ≡ c.signed16.result = search rules in
     ap (λ (g : ℤ). gives g) (kept ∙ c.signed16.ensures ∙ c.gain_bits.ensures)
     ∙ sym
-    (gain-there part.args.c.now place.result place.ensures part.part_of-value.result.now part.if-place-c.false (value part)
+    (gain-there c.args.c.now place.result place.ensures c.part_of-value.result.now c.if-place-c.false value
     (held c.right_gain.ensures c.if-not-right_gain.false))

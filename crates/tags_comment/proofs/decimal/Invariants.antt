@@ -1,12 +1,9 @@
 -- `tags_comment::decimal` meets its contract. The loop's invariant: what is left gives the number, and is digits. Assumes nothing.
-use mathlib.Core.Path.{◌≡◌, refl, ◌∙◌}
+use mathlib.Core.Path.{◌≡◌}
 use mathlib.Core.Bool.{true}
 use Prim.Native.Nat.{◌-◌, ◌^◌, ◌≤◌, ◌<◌}
-use native.Mathlib.Omega.{arith}
-use lib.ListN.{length, get_or, drop, drop_of_length-le}
+use lib.ListN.{length, drop}
 use Rattle.tags_comment.specs.Gain.{all_digits, decimal}
-use Rattle.tags_comment.proofs.Within.{low-there, high-there, others}
-use Rattle.tags_comment.proofs.Gain.{digit-more, ten_more, room}
 use Rattle.tags_comment.proofs.decimal.Given as goal
 
 abbrev pub invariant-loop-i : goal.invariant-loop-i

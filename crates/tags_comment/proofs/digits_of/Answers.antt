@@ -1,6 +1,5 @@
 -- `tags_comment::digits_of` meets its contract: a sign in front is left out. Assumes nothing.
 use mathlib.Core.Path.{◌∙◌}
-use borrow.Author.Rules.{rules}
 use Rattle.octets.proofs.Tests.{equals, unequal}
 use Rattle.tags_comment.proofs.Gain.{all_after}
 use Rattle.tags_comment.proofs.digits_of.Goals as goal

@@ -1,9 +1,5 @@
 -- `tags_comment::equals_place` meets its contract. The loop's invariant: no "=" is before i. Assumes nothing.
-use mathlib.Core.Path.{◌≡◌}
-use Prim.Native.Nat.{◌+◌, ◌-◌, ◌≤◌}
 use native.Mathlib.Omega.{arith}
-use lib.ListN.{length, drop}
-use Rattle.tags_comment.specs.Names.{equals_place}
 use Rattle.tags_comment.proofs.Names.{no_equals_left, equals-here, no_equals_here}
 use Rattle.tags_comment.proofs.equals_place.Goals as goal
 

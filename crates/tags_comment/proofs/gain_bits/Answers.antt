@@ -2,7 +2,6 @@
 use mathlib.Core.Path.{◌≡◌, sym, ap, ◌∙◌}
 use mathlib.Core.Bool.{true, false}
 use native.Mathlib.Omega.{arith}
-use borrow.Author.Rules.{rules}
 use Rattle.tags_comment.specs.Gain.{is_minus, all_digits, decimal, size_of}
 use Rattle.tags_comment.proofs.Gain.{few-digits, is-short, has-digits, minus_fits, plus_fits, minus_gain, plus_gain}
 use Rattle.tags_comment.proofs.gain_bits.Goals as goal

@@ -1,7 +1,6 @@
 -- `tags_comment::is_minus` meets its contract. Assumes nothing.
 use mathlib.Core.Path.{ap}
 use Prim.Native.Nat.{ℕ}
-use borrow.Author.Rules.{rules}
 use lib.Dec.{eqb}
 use Rattle.tags_comment.proofs.is_minus.Goals as goal
 

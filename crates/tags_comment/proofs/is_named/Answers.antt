@@ -1,6 +1,5 @@
 -- `tags_comment::is_named` meets its contract. Assumes nothing.
 use mathlib.Core.Path.{sym, ap, ◌∙◌}
-use borrow.Author.Rules.{rules}
 use Rattle.tags_comment.specs.Names.{same_name}
 use Rattle.tags_comment.proofs.Names.{nameless, named}
 use Rattle.tags_comment.proofs.is_named.Goals as goal

@@ -1,6 +1,5 @@
 -- `tags_comment::most_of` meets its contract. Assumes nothing.
 use mathlib.Core.Path.{sym, ◌∙◌}
-use borrow.Author.Rules.{rules}
 use Rattle.tags_comment.proofs.most_of.Goals as goal
 
 pub returns-then-is_minus : goal.returns-then-is_minus

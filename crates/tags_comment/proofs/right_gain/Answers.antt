@@ -1,16 +1,11 @@
 -- `tags_comment::right_gain` meets its contract: the first test that fails decides, and the number last. Assumes nothing.
 use mathlib.Core.Path.{◌≡◌, sym, ap₂, ◌∙◌}
 use mathlib.Core.Bool.{true}
-use borrow.Author.Rules.{rules}
 use lib.Dec.{leb}
 use Rattle.octets.proofs.Tests.{failed, held}
 use Rattle.tags_comment.specs.Gain.{all_digits}
 use Rattle.tags_comment.proofs.Gain.{too_long, no_digit, not-digits, size_decides, few-digits}
 use Rattle.tags_comment.proofs.right_gain.Goals as goal
-
--- the digits, where the third test was passed
-digits : (c : goal.Else-not-all_within) → all_digits c.digits_of-d.result.now ≡ true
-digits c = held c.all_within.ensures c.if-not-all_within.false
 
 pub returns-then-t-gt6 : goal.returns-then-t-gt6
 returns-then-t-gt6 c = sym (too_long c.args.t.now c.if-t-gt6.true)
@@ -29,15 +24,17 @@ returns-then-not-all_within c =
 
 pub decimal-requires : goal.decimal-requires
 decimal-requires c =
+    -- the digits, where the third test was passed
+    let digits : all_digits c.digits_of-d.result.now ≡ true = held c.all_within.ensures c.if-not-all_within.false in
     let d = c.digits_of-d in
     record {
-      digits = digits c;
+      digits = digits;
       few = few-digits c.args.t.now d.result.now c.if-t-gt6.false d.ensures;
     }
 
 pub returns : goal.returns
 returns c =
-    let third = c.before.before.before in
-    let d = third.digits_of-d in
+    let digits : all_digits c.digits_of-d.result.now ≡ true = held c.all_within.ensures c.if-not-all_within.false in
+    let d = c.digits_of-d in
     ap₂ leb c.decimal.ensures c.most_of.ensures
-    ∙ sym (size_decides third.args.t.now d.result.now third.if-t-gt6.false d.ensures third.if-d-lt1.false (digits third))
+    ∙ sym (size_decides c.args.t.now d.result.now c.if-t-gt6.false d.ensures c.if-d-lt1.false digits)

@@ -1,9 +1,7 @@
 -- `tags_comment::same_name` meets its contract. The loop's invariant: what is left decides. Assumes nothing.
-use mathlib.Core.Path.{◌≡◌, refl, sym, ◌∙◌}
-use Prim.Native.Nat.{◌-◌, ◌≤◌}
+use mathlib.Core.Path.{refl, sym, ◌∙◌}
 use native.Mathlib.Omega.{arith}
-use borrow.Author.Rules.{rules}
-use lib.ListN.{length, drop, drop_of_length-le}
+use lib.ListN.{drop_of_length-le}
 use Rattle.octets.proofs.Tests.{agrees, differs}
 use Rattle.tags_comment.specs.Names.{same_name}
 use Rattle.tags_comment.proofs.Names.{other_length, other_letter, same_letter}

@@ -1,5 +1,4 @@
 -- `tags_comment::upper` meets its contract. Assumes nothing.
-use borrow.Author.Rules.{rules}
 use borrow.Author.Tests.{le-leb, lt-leb}
 use Rattle.tags_comment.proofs.upper.Goals as goal
 

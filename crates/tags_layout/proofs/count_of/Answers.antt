@@ -1,7 +1,6 @@
 -- `tags_layout::count_of` meets its contract. Assumes nothing.
 use mathlib.Core.Path.{ap, ◌∙◌}
 use native.Mathlib.Omega.{arith}
-use borrow.Author.Rules.{rules}
 use Rattle.octets.specs.Numbers.{number}
 use Rattle.tags_layout.proofs.count_of.Goals as goal
 

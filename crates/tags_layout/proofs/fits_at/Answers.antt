@@ -1,7 +1,6 @@
 -- `tags_layout::fits_at` meets its contract. Assumes nothing.
 use mathlib.Core.Path.{sym}
 use native.Mathlib.Omega.{arith}
-use borrow.Author.Rules.{rules}
 use Rattle.tags_layout.proofs.Fitting.{no_length, has-length}
 use Rattle.tags_layout.proofs.fits_at.Goals as goal
 

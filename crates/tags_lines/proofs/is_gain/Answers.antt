@@ -1,7 +1,6 @@
 -- `tags_lines::is_gain` meets its contract. Assumes nothing.
 use mathlib.Core.Path.{ap₂}
 use mathlib.Core.Bool.{◌||◌}
-use borrow.Author.Rules.{rules}
 use Rattle.tags_lines.proofs.is_gain.Goals as goal
 
 pub returns : goal.returns

@@ -2,11 +2,11 @@
 use mathlib.Core.Path.{◌≡◌, sym, ap, ◌∙◌}
 use Prim.Native.Nat.{◌≤◌}
 use native.Mathlib.Omega.{arith}
-use borrow.Author.Rules.{rules}
 use lib.ListN.{length}
 use mir.Syntax.{w16}
 use mir.Val.{SFits}
 use mir.Facts.{to_z-of_z}
+use borrow.Author.Rules.{rules}
 use Rattle.octets.specs.Octets.{Bytes}
 use Rattle.octets.proofs.Tests.{failed, held}
 use Rattle.text_put.proofs.Putting.{put-known, laid-put, laid-known}
@@ -30,7 +30,7 @@ returns-in-Gain c =
     let told = c.comment_gain.ensures in
     let same = sym (end-gain c.args.c.now (held c.is_gain.ensures c.if-not-is_gain.false) ∙ ap gain_end (sym told ∙ ap told_gain c.in-Gain.is)) in
     let g = c.in-Gain.g in
-    let narrow : SFits w16 g = record { sfits = c.in-Gain.known_told-1-own.given.0.1 } in
+    let narrow : SFits w16 g = search rules in
     let most = length-end g narrow.sfits in
     record {
       laid = laid-known same (laid-put (omega (arith, c.requires)) (put-known (ap decibels_end (to_z-of_z narrow)) c.put_decibels.ensures));

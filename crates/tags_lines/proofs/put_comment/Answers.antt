@@ -1,6 +1,5 @@
 -- `tags_lines::put_comment` meets its contract: the end is made in a buffer of its own. Assumes nothing.
 use mathlib.Core.Path.{ap, ◌∙◌}
-use borrow.Author.Rules.{rules}
 use Rattle.text_put.proofs.Putting.{put-known, front}
 use Rattle.tags_lines.specs.Lines.{comment_is, text_line}
 use Rattle.tags_lines.proofs.put_comment.Goals as goal

@@ -1,6 +1,5 @@
 -- `tags_parts::comment_number` meets its contract. Assumes nothing.
 use mathlib.Core.Path.{sym, ap, ◌∙◌}
-use borrow.Author.Rules.{rules}
 use Rattle.refusal.specs.Told.{Told, number_in}
 use Rattle.tags_layout.specs.declared.Part.{Part}
 use Rattle.tags_layout.specs.Finding.{told_part}

@@ -1,6 +1,5 @@
 -- `tags_parts::gain` meets its contract. Assumes nothing.
 use mathlib.Core.Path.{sym, ap, ◌∙◌}
-use borrow.Author.Rules.{rules}
 use Rattle.refusal.specs.Numbers.{number_of}
 use Rattle.tags_comment.specs.Gain.{comment_gain}
 use Rattle.tags_layout.specs.Finding.{told_part}

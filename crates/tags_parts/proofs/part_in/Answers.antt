@@ -1,6 +1,5 @@
 -- `tags_parts::part_in` meets its contract. Assumes nothing.
 use mathlib.Core.Path.{sym, ap, ◌∙◌}
-use borrow.Author.Rules.{rules}
 use Rattle.tags_layout.specs.declared.PartRead.{PartRead}
 use Rattle.tags_layout.specs.Finding.{told_part}
 use Rattle.tags_reader.specs.Reading.{part_in}

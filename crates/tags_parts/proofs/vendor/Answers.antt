@@ -1,6 +1,5 @@
 -- `tags_parts::vendor` meets its contract. Assumes nothing.
 use mathlib.Core.Path.{ap, ◌∙◌}
-use borrow.Author.Rules.{rules}
 use Rattle.tags_reader.specs.Reading.{part_in}
 use Rattle.tags_parts.proofs.vendor.Goals as goal
 

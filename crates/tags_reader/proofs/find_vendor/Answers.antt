@@ -1,6 +1,5 @@
 -- `tags_reader::find_vendor` meets its contract. Assumes nothing.
 use mathlib.Core.Path.{sym, ◌∙◌}
-use borrow.Author.Rules.{rules}
 use Rattle.octets.proofs.Tests.{failed, held}
 use Rattle.tags_reader.proofs.Finding.{no_vendor, vendor-found}
 use Rattle.tags_reader.proofs.find_vendor.Goals as goal

@@ -1,6 +1,5 @@
 -- `tags_reader::is_tags` meets its contract. Assumes nothing.
 use mathlib.Core.Path.{ap, ap₂, ◌∙◌}
-use borrow.Author.Rules.{rules}
 use Rattle.tags_reader.specs.declared.Walk.{Walk}
 use Rattle.tags_reader.specs.Code.{walked, is_right}
 use Rattle.tags_reader.proofs.Checking.{walk_is_tags}

@@ -1,6 +1,5 @@
 -- `tags_reader::read_tags` meets its contract. Assumes nothing.
 use mathlib.Core.Path.{sym}
-use borrow.Author.Rules.{rules}
 use Rattle.octets.proofs.Tests.{failed, held}
 use Rattle.tags_reader.proofs.Finding.{not-read, count-read}
 use Rattle.tags_reader.proofs.read_tags.Goals as goal

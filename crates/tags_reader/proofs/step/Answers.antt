@@ -9,20 +9,21 @@ use Rattle.tags_layout.proofs.Fitting.{inside}
 use Rattle.tags_reader.proofs.Walking.{no_text, stops, goes_on}
 use Rattle.tags_reader.proofs.step.Goals as goal
 
--- the text is inside, where the test was held
-within : (c : goal.Else-not-fits_at) → next_place c.args.b.now c.args.at ≤ length c.args.b.now
-within c = let a = c.args in inside a.b.now a.at (held c.fits_at.ensures c.if-not-fits_at.false)
-
 pub returns-then-not-fits_at : goal.returns-then-not-fits_at
 returns-then-not-fits_at c =
     let a = c.args in
     sym (no_text a.b.now a.at a.track a.album (failed c.fits_at.ensures c.if-not-fits_at.true))
 
 pub overflow_add-start : goal.overflow_add-start
-overflow_add-start c = let w = within c.before.before in search rules
+overflow_add-start c =
+    -- the text is inside, where the test was held
+    let within : next_place c.args.b.now c.args.at ≤ length c.args.b.now = let a = c.args in inside a.b.now a.at (held c.fits_at.ensures c.if-not-fits_at.false) in
+    let w = within in search rules
 
 pub overflow_add-next : goal.overflow_add-next
-overflow_add-next c = let w = within c.before.before in search rules
+overflow_add-next c =
+    let within : next_place c.args.b.now c.args.at ≤ length c.args.b.now = let a = c.args in inside a.b.now a.at (held c.fits_at.ensures c.if-not-fits_at.false) in
+    let w = within in search rules
 
 pub returns-in_default : goal.returns-in_default
 returns-in_default c =
@@ -34,9 +35,9 @@ returns-in_default c =
 
 pub returns : goal.returns
 returns c =
-    let known = c.in-Seen.t-1.given in
+    let known = c.in-Seen in
     let a = c.args in
     sym
     (goes_on a.b.now a.at a.track a.album c.number32-size.result c.judge.result
     (held c.fits_at.ensures c.if-not-fits_at.false) c.number32-size.ensures
-    (rw c.part_of.ensures at c.judge.ensures) known.0.0 known.0.1.0 known.1)
+    (rw c.part_of.ensures at c.judge.ensures) known.t known.a known.is)

@@ -1,8 +1,7 @@
 -- `tags_reader::walk_by` meets its contract. The loop's invariant: what is left of the walk decides. Assumes nothing.
-use mathlib.Core.Path.{◌≡◌, sym, ap, ◌∙◌}
-use Prim.Native.Nat.{◌+◌, ◌-◌, ◌≤◌}
+use mathlib.Core.Path.{sym, ap, ◌∙◌}
+use Prim.Native.Nat.{◌+◌, ◌-◌}
 use native.Mathlib.Omega.{arith}
-use borrow.Author.Rules.{rules}
 use Rattle.tags_reader.specs.declared.Walk.TheVariants.{At}
 use Rattle.tags_reader.specs.Code.{walked}
 use Rattle.tags_reader.proofs.Walking.{walked-wrong, walk_begin, walk_more, walk_done}
@@ -16,8 +15,8 @@ returns-in_default c =
 pub loop-i-init : goal.loop-i-init
 loop-i-init c =
     let a = c.args in
-    let known = c.in-At.from-1.given in
-    (walk_begin a.b.now a.n (At known.0.0 known.0.1.0 known.0.1.1.0), omega arith)
+    let known = c.in-At in
+    (walk_begin a.b.now a.n (At known.start known.t known.a), omega arith)
 
 pub step-requires : goal.step-requires
 step-requires c = tt
@@ -25,12 +24,12 @@ step-requires c = tt
 pub returns-in_default-step : goal.returns-in_default-step
 returns-in_default-step c =
     let l = c.loop-i in
-    let known = c.in-At.from-1.given in
+    let known = c.in-At in
     let a = c.args in
     let b = a.b.now in
     let stopped = sym c.step.ensures ∙ c.in_default-step.is in
     sym
-    (ap (walked b a.n) known.1
+    (ap (walked b a.n) known.is
     ∙ sym l.invariant.0
     ∙ walk_more b a.n l.i (At l.at l.track l.album) c.loop-i-test.true
     ∙ ap (walked b (a.n - (l.i + 1))) stopped
@@ -44,11 +43,11 @@ loop-i-smaller c = omega arith
 
 pub loop-i-preserved : goal.loop-i-preserved
 loop-i-preserved c =
-    let got = c.in-At-step.next-1.given in
+    let got = c.in-At-step in
     let l = c.loop-i in
     let a = c.args in
     let b = a.b.now in
-    let stepped = sym c.step.ensures ∙ got.1 in (
+    let stepped = sym c.step.ensures ∙ got.is in (
       sym (ap (walked b (a.n - (l.i + 1))) stepped)
           ∙ sym (walk_more b a.n l.i (At l.at l.track l.album) c.loop-i-test.true)
           ∙ l.invariant.0,

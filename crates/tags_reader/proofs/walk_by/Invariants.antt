@@ -1,11 +1,8 @@
 -- `tags_reader::walk_by` meets its contract. The loop's invariant: what is left of the walk decides. Assumes nothing.
-use mathlib.Core.Path.{◌≡◌, sym, ap, ◌∙◌}
-use Prim.Native.Nat.{◌+◌, ◌-◌, ◌≤◌}
-use native.Mathlib.Omega.{arith}
-use borrow.Author.Rules.{rules}
+use mathlib.Core.Path.{◌≡◌}
+use Prim.Native.Nat.{◌-◌, ◌≤◌}
 use Rattle.tags_reader.specs.declared.Walk.TheVariants.{At}
 use Rattle.tags_reader.specs.Code.{walked}
-use Rattle.tags_reader.proofs.Walking.{walked-wrong, walk_begin, walk_more, walk_done}
 use Rattle.tags_reader.proofs.walk_by.Given as goal
 
 abbrev pub invariant-loop-i : goal.invariant-loop-i

@@ -1,19 +1,10 @@
 -- `tags_replaygain::any_from` meets its contract. The loop's invariant: what is left of the comments decides. Assumes nothing.
-use Prim.Native.Nat.{◌-◌}
 use mathlib.Core.Path.{sym, ap, ◌∙◌}
 use native.Mathlib.Omega.{arith}
 use borrow.Author.Rules.{rules}
 use Rattle.tags_replaygain.specs.ReplayGain.{is_replay_gain}
-use Rattle.tags_replaygain.proofs.Comments.{Left, left-first, none_left, Turn, turn}
+use Rattle.tags_replaygain.proofs.Comments.{left-first, none_left, Turn, turn}
 use Rattle.tags_replaygain.proofs.any_from.Goals as goal
-
--- the text that a turn is about
-in_turn : (c : goal.After-number32-size)
-    → (let a = c.args in let l = c.loop-i in Turn a.b.now a.n a.start l.i l.at c.number32-size.result)
-in_turn c =
-    let l = c.loop-i in
-    let a = c.args in
-    turn a.b.now a.n a.start l.i l.at c.number32-size.result l.invariant c.loop-i-test.true c.number32-size.ensures
 
 pub loop-i-init : goal.loop-i-init
 loop-i-init c =
@@ -21,15 +12,27 @@ loop-i-init c =
     left-first a.b.now a.n a.start c.requires
 
 pub overflow_add-text : goal.overflow_add-text
-overflow_add-text c = let w = (in_turn c).inside in search rules
+overflow_add-text c =
+    -- the text that a turn is about
+    let in_turn : (let a = c.args in let l = c.loop-i in Turn a.b.now a.n a.start l.i l.at c.number32-size.result) = let l = c.loop-i in
+    let a = c.args in
+    turn a.b.now a.n a.start l.i l.at c.number32-size.result l.invariant c.loop-i-test.true c.number32-size.ensures in
+    let w = in_turn.inside in search rules
 
 pub returns-then-is_replaygain : goal.returns-then-is_replaygain
 returns-then-is_replaygain c =
-    (in_turn c.before.before.before).found
+    let in_turn : (let a = c.args in let l = c.loop-i in Turn a.b.now a.n a.start l.i l.at c.number32-size.result) = let l = c.loop-i in
+    let a = c.args in
+    turn a.b.now a.n a.start l.i l.at c.number32-size.result l.invariant c.loop-i-test.true c.number32-size.ensures in
+    in_turn.found
     (sym (c.is_replaygain.ensures ∙ ap is_replay_gain c.part_of.ensures) ∙ c.if-is_replaygain.true)
 
 pub overflow_add-at : goal.overflow_add-at
-overflow_add-at c = let w = (in_turn c.before.before.before.before).inside in search rules
+overflow_add-at c =
+    let in_turn : (let a = c.args in let l = c.loop-i in Turn a.b.now a.n a.start l.i l.at c.number32-size.result) = let l = c.loop-i in
+    let a = c.args in
+    turn a.b.now a.n a.start l.i l.at c.number32-size.result l.invariant c.loop-i-test.true c.number32-size.ensures in
+    let w = in_turn.inside in search rules
 
 pub overflow_add-i : goal.overflow_add-i
 overflow_add-i c = omega arith
@@ -39,7 +42,10 @@ loop-i-smaller c = omega arith
 
 pub loop-i-preserved : goal.loop-i-preserved
 loop-i-preserved c =
-    (in_turn c.before.before.before).goes_on
+    let in_turn : (let a = c.args in let l = c.loop-i in Turn a.b.now a.n a.start l.i l.at c.number32-size.result) = let l = c.loop-i in
+    let a = c.args in
+    turn a.b.now a.n a.start l.i l.at c.number32-size.result l.invariant c.loop-i-test.true c.number32-size.ensures in
+    in_turn.goes_on
     (sym (c.is_replaygain.ensures ∙ ap is_replay_gain c.part_of.ensures) ∙ c.if-is_replaygain.false)
 
 pub returns : goal.returns

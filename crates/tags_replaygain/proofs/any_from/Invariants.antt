@@ -1,10 +1,6 @@
 -- `tags_replaygain::any_from` meets its contract. The loop's invariant: what is left of the comments decides. Assumes nothing.
 use Prim.Native.Nat.{◌-◌}
-use mathlib.Core.Path.{sym, ap, ◌∙◌}
-use native.Mathlib.Omega.{arith}
-use borrow.Author.Rules.{rules}
-use Rattle.tags_replaygain.specs.ReplayGain.{is_replay_gain}
-use Rattle.tags_replaygain.proofs.Comments.{Left, left-first, none_left, Turn, turn}
+use Rattle.tags_replaygain.proofs.Comments.{Left}
 use Rattle.tags_replaygain.proofs.any_from.Given as goal
 
 abbrev pub invariant-loop-i : goal.invariant-loop-i

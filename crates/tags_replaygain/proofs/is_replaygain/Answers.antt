@@ -1,6 +1,5 @@
 -- `tags_replaygain::is_replaygain` meets its contract. Assumes nothing.
 use mathlib.Core.Path.{sym, ◌∙◌}
-use borrow.Author.Rules.{rules}
 use Rattle.tags_replaygain.proofs.Names.{is-track_gain, is-track_peak, is-album_gain, last_decides}
 use Rattle.tags_replaygain.proofs.is_replaygain.Goals as goal
 

@@ -1,6 +1,5 @@
 -- `tags_rules::judge` meets its contract. Assumes nothing.
 use mathlib.Core.Path.{sym}
-use borrow.Author.Rules.{rules}
 use Rattle.octets.proofs.Tests.{failed, held}
 use Rattle.tags_rules.proofs.Judging.{wrong-comment, second_track, second_album, next-comment}
 use Rattle.tags_rules.proofs.judge.Goals as goal

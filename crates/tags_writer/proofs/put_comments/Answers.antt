@@ -1,70 +1,77 @@
 -- `tags_writer::put_comments` meets its contract. The loop's invariant: what is left to copy makes the whole. Assumes nothing.
 use mathlib.Core.Path.{◌≡◌, refl, ap, ◌∙◌}
 use mathlib.Core.List.{List}
-use Prim.Native.Nat.{ℕ, ◌+◌, ◌-◌, ◌*◌, ◌≤◌}
+use Prim.Native.Nat.{ℕ, ◌+◌, ◌-◌, ◌≤◌}
 use native.Mathlib.Omega.{arith}
 use borrow.Author.Rules.{rules}
 use lib.ListN.{length, get_or, take, drop}
-use Rattle.octets.specs.Octets.{Bytes, total, copied}
+use Rattle.octets.specs.Octets.{Bytes, copied}
 use Rattle.octets.proofs.Copying.{length-copied}
 use Rattle.tags_reader.specs.Packet.{text_bytes, comments_bytes}
 use Rattle.tags_writer.specs.Writing.{cut_by}
 use Rattle.tags_writer.proofs.Laying.{all-copied, comment-inside, comment-length, rest_sum, comments-copied}
 use Rattle.tags_writer.proofs.put_comments.Goals as goal
 
--- what a turn takes from the text is inside it
-module _ (c : goal.In-loop-i) where
-  abbrev text : Bytes
-  text = c.args.text.now
-
-  abbrev lengths : List ℕ
-  lengths = c.args.lengths.now
-
-  abbrev n : ℕ
-  n = get_or lengths c.loop-i.i 0
-
-  inside : n ≤ length text - c.loop-i.from
-  inside = let l = c.loop-i in comment-inside l.out text lengths l.at l.from l.i c.loop-i-test.true l.invariant.1
-
-  sized : length (take n (drop c.loop-i.from text)) ≡ n
-  sized = let l = c.loop-i in comment-length l.out text lengths l.at l.from l.i c.loop-i-test.true l.invariant.1
-
 pub loop-i-init : goal.loop-i-init
-loop-i-init c = let sum = c.requires.sum in (refl, omega arith, omega arith, omega arith, omega arith, refl)
+loop-i-init c =
+    let sum = c.requires.sum in (refl, omega arith, omega arith, omega arith, omega arith, refl)
 
 pub put_text-requires : goal.put_text-requires
 put_text-requires c =
-    let turn = c.before.before.before.before in
-    let size = ap length c.part_of.ensures ∙ sized turn in
-    record { small = omega (arith, size, inside turn, turn.requires.small); room = omega (arith, size, inside turn) }
+    -- what a turn takes from the text is inside it
+    let text : Bytes = c.args.text.now in
+    let lengths : List ℕ = c.args.lengths.now in
+    let n : ℕ = get_or lengths c.loop-i.i 0 in
+    let inside : n ≤ length text - c.loop-i.from = let l = c.loop-i in comment-inside l.out text lengths l.at l.from l.i c.loop-i-test.true l.invariant.1 in
+    let sized : length (take n (drop c.loop-i.from text)) ≡ n = let l = c.loop-i in comment-length l.out text lengths l.at l.from l.i c.loop-i-test.true l.invariant.1 in
+    let size = ap length c.part_of.ensures ∙ sized in
+    record { small = omega (arith, size, inside, c.requires.small); room = omega (arith, size, inside) }
 
 pub overflow_add-at : goal.overflow_add-at
-overflow_add-at c = let small = inside c.before.before.before.before.before.before.before in search rules
+overflow_add-at c =
+    let text : Bytes = c.args.text.now in
+    let lengths : List ℕ = c.args.lengths.now in
+    let n : ℕ = get_or lengths c.loop-i.i 0 in
+    let inside : n ≤ length text - c.loop-i.from = let l = c.loop-i in comment-inside l.out text lengths l.at l.from l.i c.loop-i-test.true l.invariant.1 in
+    let small = inside in search rules
 
 pub overflow_add-at-in-loop-i : goal.overflow_add-at-in-loop-i
-overflow_add-at-in-loop-i c = let small = inside c.before.before.before.before.before.before.before in search rules
+overflow_add-at-in-loop-i c =
+    let text : Bytes = c.args.text.now in
+    let lengths : List ℕ = c.args.lengths.now in
+    let n : ℕ = get_or lengths c.loop-i.i 0 in
+    let inside : n ≤ length text - c.loop-i.from = let l = c.loop-i in comment-inside l.out text lengths l.at l.from l.i c.loop-i-test.true l.invariant.1 in
+    let small = inside in search rules
 
 pub overflow_add-from : goal.overflow_add-from
-overflow_add-from c = let small = inside c.before.before.before.before.before.before.before in search rules
+overflow_add-from c =
+    let text : Bytes = c.args.text.now in
+    let lengths : List ℕ = c.args.lengths.now in
+    let n : ℕ = get_or lengths c.loop-i.i 0 in
+    let inside : n ≤ length text - c.loop-i.from = let l = c.loop-i in comment-inside l.out text lengths l.at l.from l.i c.loop-i-test.true l.invariant.1 in
+    let small = inside in search rules
 
 pub loop-i-smaller : goal.loop-i-smaller
 loop-i-smaller c = omega arith
 
 pub loop-i-preserved : goal.loop-i-preserved
 loop-i-preserved c =
-    let turn = c.before.before.before.before.before in
-    let l = turn.loop-i in
-    let s = text turn in
-    let ns = lengths turn in
-    let put : c.put_text.new.0 ≡ copied l.out l.at (text_bytes (take (n turn) (drop l.from s))) =
+    let text : Bytes = c.args.text.now in
+    let lengths : List ℕ = c.args.lengths.now in
+    let n : ℕ = get_or lengths c.loop-i.i 0 in
+    let inside : n ≤ length text - c.loop-i.from = let l = c.loop-i in comment-inside l.out text lengths l.at l.from l.i c.loop-i-test.true l.invariant.1 in
+    let l = c.loop-i in
+    let s = text in
+    let ns = lengths in
+    let put : c.put_text.new.out ≡ copied l.out l.at (text_bytes (take n (drop l.from s))) =
     (c.put_text.ensures ∙ ap (λ (t : Bytes). copied l.out l.at (text_bytes t)) c.part_of.ensures) in
-    let size = ap length put ∙ length-copied l.out l.at (text_bytes (take (n turn) (drop l.from s))) in
-    let small = inside turn in
-    let later : Bytes = comments_bytes (cut_by (drop (l.i + 1) ns) (drop (l.from + n turn) s)) in (
-      ap (λ (d : Bytes). copied d (l.at + (4 + n turn)) later) put
-          ∙ comments-copied l.out s ns l.at l.from l.i turn.loop-i-test.true l.invariant.1 (omega arith)
+    let size = ap length put ∙ length-copied l.out l.at (text_bytes (take n (drop l.from s))) in
+    let small = inside in
+    let later : Bytes = comments_bytes (cut_by (drop (l.i + 1) ns) (drop (l.from + n) s)) in (
+      ap (λ (d : Bytes). copied d (l.at + (4 + n)) later) put
+          ∙ comments-copied l.out s ns l.at l.from l.i c.loop-i-test.true l.invariant.1 (omega arith)
           ∙ l.invariant.0,
-      rest_sum l.out s ns l.at l.from l.i turn.loop-i-test.true l.invariant.1,
+      rest_sum l.out s ns l.at l.from l.i c.loop-i-test.true l.invariant.1,
       omega arith,
       omega arith,
       omega arith,

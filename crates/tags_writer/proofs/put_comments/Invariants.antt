@@ -1,15 +1,10 @@
 -- `tags_writer::put_comments` meets its contract. The loop's invariant: what is left to copy makes the whole. Assumes nothing.
-use mathlib.Core.Path.{◌≡◌, refl, ap, ◌∙◌}
-use mathlib.Core.List.{List}
-use Prim.Native.Nat.{ℕ, ◌+◌, ◌-◌, ◌*◌, ◌≤◌}
-use native.Mathlib.Omega.{arith}
-use borrow.Author.Rules.{rules}
-use lib.ListN.{length, get_or, take, drop}
-use Rattle.octets.specs.Octets.{Bytes, total, copied}
-use Rattle.octets.proofs.Copying.{length-copied}
-use Rattle.tags_reader.specs.Packet.{text_bytes, comments_bytes}
+use mathlib.Core.Path.{◌≡◌}
+use Prim.Native.Nat.{◌+◌, ◌-◌, ◌*◌, ◌≤◌}
+use lib.ListN.{length, drop}
+use Rattle.octets.specs.Octets.{total, copied}
+use Rattle.tags_reader.specs.Packet.{comments_bytes}
 use Rattle.tags_writer.specs.Writing.{cut_by}
-use Rattle.tags_writer.proofs.Laying.{all-copied, comment-inside, comment-length, rest_sum, comments-copied}
 use Rattle.tags_writer.proofs.put_comments.Given as goal
 
 abbrev pub invariant-loop-i : goal.invariant-loop-i

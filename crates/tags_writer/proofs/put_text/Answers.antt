@@ -1,7 +1,6 @@
 -- `tags_writer::put_text` meets its contract. Assumes nothing.
 use mathlib.Core.Path.{ap, ◌∙◌}
 use Prim.Native.Nat.{◌+◌}
-use borrow.Author.Rules.{rules}
 use Rattle.octets.specs.Octets.{Bytes, copied}
 use Rattle.tags_writer.proofs.Laying.{text-copied}
 use Rattle.tags_writer.proofs.put_text.Goals as goal

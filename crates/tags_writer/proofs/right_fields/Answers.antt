@@ -1,7 +1,6 @@
 -- `tags_writer::right_fields` meets its contract. Assumes nothing.
 use mathlib.Core.Path.{sym, ◌∙◌}
 use native.Mathlib.Omega.{arith}
-use borrow.Author.Rules.{rules}
 use Rattle.octets.proofs.Tests.{failed, held}
 use Rattle.tags_writer.proofs.Taking.{too_big, wrong-vendor, lengths_decide}
 use Rattle.tags_writer.proofs.right_fields.Goals as goal

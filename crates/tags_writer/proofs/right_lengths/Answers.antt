@@ -1,12 +1,8 @@
 -- `tags_writer::right_lengths` meets its contract. The loop's invariant: what is left decides. Assumes nothing.
-use mathlib.Core.Path.{◌≡◌, sym, ap, ◌∙◌}
-use Prim.Native.Nat.{◌-◌, ◌≤◌}
+use mathlib.Core.Path.{sym, ap, ◌∙◌}
 use native.Mathlib.Omega.{arith}
-use borrow.Author.Rules.{rules}
-use lib.ListN.{length}
 use Rattle.tags_rules.specs.Code.{told_gains}
-use Rattle.tags_writer.specs.Code.{right_lengths}
-use Rattle.tags_writer.proofs.Lengths.{rest_right, too_long, comment-wrong, comment_right, lengths_begin, lengths-done}
+use Rattle.tags_writer.proofs.Lengths.{too_long, comment-wrong, comment_right, lengths_begin, lengths-done}
 use Rattle.tags_writer.proofs.right_lengths.Goals as goal
 
 pub loop-i-init : goal.loop-i-init
@@ -35,13 +31,13 @@ loop-i-smaller c = omega arith
 
 pub loop-i-preserved : goal.loop-i-preserved
 loop-i-preserved c =
-    let got = c.in-Seen.t-1.given in
+    let got = c.in-Seen in
     let l = c.loop-i in
     let a = c.args in
     let judge = rw c.part_of.ensures at c.judge.ensures in (
       sym
-          (comment_right a.text.now a.lengths.now l.at l.track l.album l.i c.loop-i-test.true got.0.0 got.0.1.0
-          c.if-text-at.false (sym judge ∙ ap told_gains got.1))
+          (comment_right a.text.now a.lengths.now l.at l.track l.album l.i c.loop-i-test.true got.t got.a
+          c.if-text-at.false (sym judge ∙ ap told_gains got.is))
           ∙ l.invariant.0,
       omega arith,
       omega arith,

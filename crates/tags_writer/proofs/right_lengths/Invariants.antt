@@ -1,12 +1,9 @@
 -- `tags_writer::right_lengths` meets its contract. The loop's invariant: what is left decides. Assumes nothing.
-use mathlib.Core.Path.{◌≡◌, sym, ap, ◌∙◌}
+use mathlib.Core.Path.{◌≡◌}
 use Prim.Native.Nat.{◌-◌, ◌≤◌}
-use native.Mathlib.Omega.{arith}
-use borrow.Author.Rules.{rules}
 use lib.ListN.{length}
-use Rattle.tags_rules.specs.Code.{told_gains}
 use Rattle.tags_writer.specs.Code.{right_lengths}
-use Rattle.tags_writer.proofs.Lengths.{rest_right, too_long, comment-wrong, comment_right, lengths_begin, lengths-done}
+use Rattle.tags_writer.proofs.Lengths.{rest_right}
 use Rattle.tags_writer.proofs.right_lengths.Given as goal
 
 abbrev pub invariant-loop-i : goal.invariant-loop-i

@@ -1,9 +1,7 @@
 -- `text_decimal::digits_of` meets its contract. The loop's invariant: n, and the digits of what is left but one. Assumes nothing.
-use mathlib.Core.Path.{◌≡◌, ap}
-use Prim.Native.Nat.{◌+◌, ◌≤◌}
+use mathlib.Core.Path.{ap}
 use native.Mathlib.Omega.{arith}
 use lib.ListN.{length}
-use Rattle.text_decimal.specs.Decimal.{decimal}
 use Rattle.text_decimal.proofs.Decimal.{decimal-one, length_more, length-u64}
 use Rattle.text_decimal.proofs.digits_of.Goals as goal
 

@@ -2,24 +2,11 @@
 use mathlib.Core.Path.{sym, ◌∙◌}
 use Prim.Native.Nat.{◌+◌, ◌≤◌}
 use native.Mathlib.Omega.{arith}
-use borrow.Author.Rules.{rules}
 use borrow.Author.Tests.{ltb-true, ltb-false}
 use lib.ListN.{length}
 use Rattle.text_put.proofs.Putting.{put-laid, put-nothing}
 use Rattle.text_decimal.specs.Decimal.{decimal}
 use Rattle.text_decimal.proofs.put_decimal.Goals as goal
-use Rattle.text_decimal.proofs.put_decimal.Lts as lts
-use Rattle.text_decimal.proofs.put_decimal.Tie as tie
-
-abbrev Else-lacks_digits : Type 0
-Else-lacks_digits = lts.Else1 tie.the-claims tie.handed_pre tie.handed_post
-
--- the digits fit
-fits : (c : Else-lacks_digits) → let a = c.args in a.at + length (decimal a.x) ≤ length a.out.now
-fits c =
-    let a = c.args in
-    let test = ltb-false (length a.out.now) (a.at + (length (decimal a.x) + 0)) (sym c.lacks_digits.ensures ∙ c.if-lacks_digits.false) in
-    omega arith
 
 pub lacks_digits-requires : goal.lacks_digits-requires
 lacks_digits-requires c = omega arith
@@ -31,7 +18,16 @@ returns-then-lacks_digits c =
     put-nothing (omega arith)
 
 pub lay_decimal-requires : goal.lay_decimal-requires
-lay_decimal-requires c = fits c.before.before
+lay_decimal-requires c =
+    -- the digits fit
+    let fits : let a = c.args in a.at + length (decimal a.x) ≤ length a.out.now = let a = c.args in
+    let test = ltb-false (length a.out.now) (a.at + (length (decimal a.x) + 0)) (sym c.lacks_digits.ensures ∙ c.if-lacks_digits.false) in
+    omega arith in
+    fits
 
 pub returns : goal.returns
-returns c = put-laid (fits c.before.before.before.before.before) c.lay_decimal.ensures
+returns c =
+    let fits : let a = c.args in a.at + length (decimal a.x) ≤ length a.out.now = let a = c.args in
+    let test = ltb-false (length a.out.now) (a.at + (length (decimal a.x) + 0)) (sym c.lacks_digits.ensures ∙ c.if-lacks_digits.false) in
+    omega arith in
+    put-laid fits c.lay_decimal.ensures

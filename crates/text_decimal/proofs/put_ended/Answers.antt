@@ -3,7 +3,6 @@
 use mathlib.Core.Path.{refl, sym, ap, ◌∙◌}
 use Prim.Native.Nat.{◌+◌, ◌≤◌}
 use native.Mathlib.Omega.{arith}
-use borrow.Author.Rules.{rules}
 use borrow.Author.Tests.{ltb-true, ltb-false}
 use lib.ListN.{length}
 use Rattle.octets.proofs.Numbers.{length-octets}
@@ -12,31 +11,6 @@ use Rattle.text_put.proofs.Putting.{put-laid, put-nothing}
 use Rattle.text_decimal.specs.Decimal.{decimal}
 use Rattle.text_decimal.proofs.Decimal.{length-ended, decimal-three}
 use Rattle.text_decimal.proofs.put_ended.Goals as goal
-use Rattle.text_decimal.proofs.put_ended.Lts as lts
-use Rattle.text_decimal.proofs.put_ended.Tie as tie
-
-abbrev Else-lacks_digits : Type 0
-Else-lacks_digits = lts.Else1 tie.the-claims tie.handed_pre tie.handed_post
-
-abbrev Then-x-ge100 : Type 0
-Then-x-ge100 = lts.Then3 tie.the-claims tie.handed_pre tie.handed_post
-
--- the digits and the byte fit
-fits : (c : Else-lacks_digits) → let a = c.args in a.at + length (decimal a.x) + 1 ≤ length a.out.now
-fits c =
-    let a = c.args in
-    let test = ltb-false (length a.out.now) (a.at + (length (decimal a.x) + 1)) (sym c.lacks_digits.ensures ∙ c.if-lacks_digits.false) in
-    omega arith
-
--- there is room for a word
-word_fits : (c : Then-x-ge100) → let a = c.args in a.at + 4 ≤ length a.out.now
-word_fits c =
-    let x = c.args.x in
-    omega (arith, fits c.before.before, ap length (decimal-three x (omega arith) (omega arith)))
-
--- there is room for the byte
-room : (c : goal.After-slice_known-2-1) → c.lay_decimal-next.result + 1 ≤ length c.lay_decimal-next.new.0
-room c = omega (arith, fits c.before.before.before.before.before)
 
 pub lacks_digits-requires : goal.lacks_digits-requires
 lacks_digits-requires c = omega arith
@@ -48,33 +22,67 @@ returns-then-lacks_digits c =
     put-nothing (omega (arith, length-ended a.x a.b))
 
 pub put_word-requires : goal.put_word-requires
-put_word-requires c = word_fits c.before.before.before
+put_word-requires c =
+    -- the digits and the byte fit
+    let fits : let a = c.args in a.at + length (decimal a.x) + 1 ≤ length a.out.now = let a = c.args in
+    let test = ltb-false (length a.out.now) (a.at + (length (decimal a.x) + 1)) (sym c.lacks_digits.ensures ∙ c.if-lacks_digits.false) in
+    omega arith in
+    -- there is room for a word
+    let word_fits : let a = c.args in a.at + 4 ≤ length a.out.now = let x = c.args.x in
+    omega (arith, fits, ap length (decimal-three x (omega arith) (omega arith))) in
+    word_fits
 
 pub overflow_add-result : goal.overflow_add-result
-overflow_add-result c = omega (arith, word_fits c.before.before.before.before.before.before)
+overflow_add-result c =
+    let fits : let a = c.args in a.at + length (decimal a.x) + 1 ≤ length a.out.now = let a = c.args in
+    let test = ltb-false (length a.out.now) (a.at + (length (decimal a.x) + 1)) (sym c.lacks_digits.ensures ∙ c.if-lacks_digits.false) in
+    omega arith in
+    let word_fits : let a = c.args in a.at + 4 ≤ length a.out.now = let x = c.args.x in
+    omega (arith, fits, ap length (decimal-three x (omega arith) (omega arith))) in
+    omega (arith, word_fits)
 
 pub shape_of-out-then-x-ge100 : goal.shape_of-out-then-x-ge100
 shape_of-out-then-x-ge100 c = omega arith
 
 pub returns-then-x-ge100 : goal.returns-then-x-ge100
 returns-then-x-ge100 c =
-    let test = c.before.before.before.before.before in
-    let a = test.args in
-    put-laid (omega (arith, fits test, length-ended a.x a.b))
+    let fits : let a = c.args in a.at + length (decimal a.x) + 1 ≤ length a.out.now = let a = c.args in
+    let test = ltb-false (length a.out.now) (a.at + (length (decimal a.x) + 1)) (sym c.lacks_digits.ensures ∙ c.if-lacks_digits.false) in
+    omega arith in
+    let a = c.args in
+    put-laid (omega (arith, fits, length-ended a.x a.b))
     (laid_as 4 (sym c.three_digits.ensures) (length-octets 4 c.three_digits.result) c.put_word.ensures)
 
 pub lay_decimal-next-requires : goal.lay_decimal-next-requires
-lay_decimal-next-requires c = omega (arith, fits c.before.before.before)
+lay_decimal-next-requires c =
+    let fits : let a = c.args in a.at + length (decimal a.x) + 1 ≤ length a.out.now = let a = c.args in
+    let test = ltb-false (length a.out.now) (a.at + (length (decimal a.x) + 1)) (sym c.lacks_digits.ensures ∙ c.if-lacks_digits.false) in
+    omega arith in
+    omega (arith, fits)
 
 pub bounds-out-next : goal.bounds-out-next
-bounds-out-next c = omega (arith, room c)
+bounds-out-next c =
+    let fits : let a = c.args in a.at + length (decimal a.x) + 1 ≤ length a.out.now = let a = c.args in
+    let test = ltb-false (length a.out.now) (a.at + (length (decimal a.x) + 1)) (sym c.lacks_digits.ensures ∙ c.if-lacks_digits.false) in
+    omega arith in
+    -- there is room for the byte
+    let room : c.lay_decimal-next.result + 1 ≤ length c.lay_decimal-next.new.out = omega (arith, fits) in
+    omega (arith, room)
 
 pub overflow_add-result-2 : goal.overflow_add-result-2
-overflow_add-result-2 c = omega (arith, room c)
+overflow_add-result-2 c =
+    let fits : let a = c.args in a.at + length (decimal a.x) + 1 ≤ length a.out.now = let a = c.args in
+    let test = ltb-false (length a.out.now) (a.at + (length (decimal a.x) + 1)) (sym c.lacks_digits.ensures ∙ c.if-lacks_digits.false) in
+    omega arith in
+    let room : c.lay_decimal-next.result + 1 ≤ length c.lay_decimal-next.new.out = omega (arith, fits) in
+    omega (arith, room)
 
 pub returns : goal.returns
 returns c =
-    let test = c.before.before.before.before in
-    let a = test.args in
-    put-laid (omega (arith, fits test, length-ended a.x a.b))
-    (laid_next c.lay_decimal-next.ensures (laid_as 1 refl refl (one_store _ _ _ (room c))) (omega (arith, fits test)))
+    let fits : let a = c.args in a.at + length (decimal a.x) + 1 ≤ length a.out.now = let a = c.args in
+    let test = ltb-false (length a.out.now) (a.at + (length (decimal a.x) + 1)) (sym c.lacks_digits.ensures ∙ c.if-lacks_digits.false) in
+    omega arith in
+    let room : c.lay_decimal-next.result + 1 ≤ length c.lay_decimal-next.new.out = omega (arith, fits) in
+    let a = c.args in
+    put-laid (omega (arith, fits, length-ended a.x a.b))
+    (laid_next c.lay_decimal-next.ensures (laid_as 1 refl refl (one_store _ _ _ room)) (omega (arith, fits)))

@@ -1,6 +1,5 @@
 -- `text_decimal::put_four` meets its contract. Assumes nothing.
 use mathlib.Core.Path.{◌∙◌, ap}
-use borrow.Author.Rules.{rules}
 use Rattle.octets.specs.Octets.{copied}
 use Rattle.text_decimal.proofs.put_four.Goals as goal
 

@@ -1,6 +1,5 @@
 -- `text_decimal::put_upper` meets its contract: the last eight digits come after the others. Assumes nothing.
 use native.Mathlib.Omega.{arith}
-use borrow.Author.Rules.{rules}
 use mathlib.Core.Path.{refl}
 use Prim.Native.Nat.{◌%◌}
 use Rattle.text_put.proofs.Laying.{laid_next, laid_as}

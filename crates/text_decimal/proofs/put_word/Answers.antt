@@ -1,7 +1,6 @@
 -- `text_decimal::put_word` meets its contract: four stores are a copy. Assumes nothing.
 use mathlib.Core.Path.{◌∙◌, ap, sym}
 use native.Mathlib.Omega.{arith}
-use borrow.Author.Rules.{rules}
 use lib.ListN.{length-set}
 use Rattle.octets.specs.Octets.{copied}
 use Rattle.text_put.proofs.Laying.{four_stores}

@@ -1,5 +1,4 @@
 -- `text_decimal::three_digits` meets its contract. Assumes nothing.
-use borrow.Author.Rules.{rules}
 use native.Mathlib.Omega.{arith}
 use Rattle.text_decimal.proofs.Words.{three_right}
 use Rattle.text_decimal.proofs.three_digits.Goals as goal

@@ -1,7 +1,6 @@
 -- `text_gain::lay_end` meets its contract. Assumes nothing.
 use mathlib.Core.Path.{ap}
 use native.Mathlib.Omega.{arith}
-use borrow.Author.Rules.{rules}
 use mir.Facts.{to_z-of_z}
 use Rattle.text_put.proofs.Putting.{laid-put, laid-known, length-laid}
 use Rattle.text_gain.specs.Numbers.{decibels}

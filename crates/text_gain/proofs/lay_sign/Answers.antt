@@ -1,6 +1,5 @@
 -- `text_gain::lay_sign` meets its contract. Assumes nothing.
 use mathlib.Core.Path.{ap, ◌∙◌}
-use borrow.Author.Rules.{rules}
 use mir.Syntax.{w16}
 use mir.Val.{of_z}
 use mir.Facts.{to_z-of_z}

@@ -1,6 +1,5 @@
 -- `text_gain::put_decibels` meets its contract: made in a buffer of its own, and put whole. Assumes nothing.
 use mathlib.Core.Path.{ap}
-use borrow.Author.Rules.{rules}
 use mir.Facts.{to_z-of_z}
 use Rattle.text_put.proofs.Putting.{put_made, put-known}
 use Rattle.text_gain.specs.Numbers.{decibels_end}

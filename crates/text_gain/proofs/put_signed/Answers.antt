@@ -1,7 +1,6 @@
 -- `text_gain::put_signed` meets its contract: made in a buffer of its own, and put whole. Assumes nothing.
 use mathlib.Core.Path.{ap}
 use native.Mathlib.Omega.{arith}
-use borrow.Author.Rules.{rules}
 use lib.ListN.{length}
 use mir.Facts.{to_z-of_z}
 use Rattle.text_put.proofs.Putting.{put_made, put-known}

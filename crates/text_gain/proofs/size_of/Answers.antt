@@ -1,7 +1,6 @@
 -- `text_gain::size_of` meets its contract. Assumes nothing.
 use mathlib.Core.Path.{ap, ◌∙◌}
 use native.Mathlib.Omega.{arith}
-use borrow.Author.Rules.{rules}
 use mir.Syntax.{w16}
 use mir.Val.{of_z}
 use mir.Facts.{to_z-of_z}

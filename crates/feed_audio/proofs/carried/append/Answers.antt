@@ -1,6 +1,5 @@
 -- `feed_audio::carried::append` meets its contract. Assumes nothing.
 use mathlib.Core.Path.{sym}
-use borrow.Author.Rules.{rules}
 use lib.Seq.{length-take-le}
 use Rattle.feed_audio.proofs.carried.append.Goals as goal
 

@@ -1,6 +1,5 @@
 -- `feed_audio::carried::still_pending` meets its contract. Assumes nothing.
 use mathlib.Core.Path.{◌≡◌}
-use borrow.Author.Rules.{rules}
 use Rattle.stream.specs.declared.Pending.TheVariants.{Nothing}
 use Rattle.feed_audio.proofs.carried.still_pending.Goals as goal
 

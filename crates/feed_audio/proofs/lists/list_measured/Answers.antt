@@ -1,13 +1,12 @@
 -- `feed_audio::lists::list_measured` meets its contract. Assumes nothing.
 use mathlib.Core.Path.{◌≡◌, refl}
 use native.Mathlib.Omega.{arith}
-use borrow.Author.Rules.{rules}
 use Rattle.feed_audio.specs.declared.times.Timed.TheVariants.{Packets, Refused}
 use Rattle.feed_audio.proofs.lists.list_measured.Goals as goal
 
 pub list_packets-left-requires : goal.list_packets-left-requires
 list_packets-left-requires c =
-    let room = c.requires.1.0 in
+    let room = c.requires.room in
     let q : c.time_page.result ≡ Packets c.in-Packets.count c.in-Packets.d c.in-Packets.place = c.in-Packets.is in
     let m = rw q at c.time_page.ensures in
     let size = c.measures-2-1.given in

@@ -1,10 +1,9 @@
 -- `feed_audio::packets::first_piece` meets its contract: `Turns.antt` has the ways of a turn. Assumes nothing.
-use Prim.Native.Nat.{◌+◌, ◌-◌, ◌*◌, ◌≤◌}
-use mathlib.Core.Path.{◌≡◌, sym}
+use Prim.Native.Nat.{◌+◌}
+use mathlib.Core.Path.{sym}
 use native.Mathlib.Omega.{arith}
-use lib.ListN.{length, drop, drop_of_length-le}
-use Rattle.feed_audio.specs.Code.{first_from}
-use Rattle.feed_audio.proofs.Turns.{past, past-none, piece_open, piece-goes_on, piece-ends}
+use lib.ListN.{drop, drop_of_length-le}
+use Rattle.feed_audio.proofs.Turns.{past-none, piece_open, piece-goes_on, piece-ends}
 use Rattle.feed_lacing.proofs.Values.{next}
 use Rattle.feed_audio.proofs.packets.first_piece.Goals as goal
 

@@ -1,11 +1,9 @@
 -- `feed_audio::packets::first_piece` meets its contract: `Turns.antt` has the ways of a turn. Assumes nothing.
-use Prim.Native.Nat.{◌+◌, ◌-◌, ◌*◌, ◌≤◌}
-use mathlib.Core.Path.{◌≡◌, sym}
-use native.Mathlib.Omega.{arith}
-use lib.ListN.{length, drop, drop_of_length-le}
+use Prim.Native.Nat.{◌-◌, ◌*◌, ◌≤◌}
+use mathlib.Core.Path.{◌≡◌}
+use lib.ListN.{length, drop}
 use Rattle.feed_audio.specs.Code.{first_from}
-use Rattle.feed_audio.proofs.Turns.{past, past-none, piece_open, piece-goes_on, piece-ends}
-use Rattle.feed_lacing.proofs.Values.{next}
+use Rattle.feed_audio.proofs.Turns.{past}
 use Rattle.feed_audio.proofs.packets.first_piece.Given as goal
 
 abbrev pub invariant-loop-i : goal.invariant-loop-i

@@ -1,5 +1,4 @@
 -- `feed_audio::packets::is_single_of` meets its contract. Assumes nothing.
-use borrow.Author.Rules.{rules}
 use Rattle.feed_audio.proofs.packets.is_single_of.Goals as goal
 
 pub returns : goal.returns

@@ -1,12 +1,7 @@
 -- `feed_audio::packets::measure` meets its contract: `Measuring.antt` has the ways of a turn. Assumes nothing.
-use Prim.Native.Nat.{◌-◌, ◌≤◌}
 use mathlib.Core.Path.{refl}
 use native.Mathlib.Omega.{arith}
-use borrow.Author.Rules.{rules}
-use lib.ListN.{length, drop, take}
-use Rattle.stream.specs.Page.{whole_from}
-use Rattle.feed_audio.specs.Code.{measures_in, in_front, measured}
-use Rattle.feed_audio.proofs.Measuring.{Measuring, read_as, packable, fits, goes_on, refused, ends, all-measured}
+use Rattle.feed_audio.proofs.Measuring.{read_as, packable, fits, goes_on, refused, ends, all-measured}
 use Rattle.feed_audio.proofs.packets.measure.Goals as goal
 
 pub loop-i-init : goal.loop-i-init

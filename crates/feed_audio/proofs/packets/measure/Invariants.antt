@@ -1,12 +1,9 @@
 -- `feed_audio::packets::measure` meets its contract: `Measuring.antt` has the ways of a turn. Assumes nothing.
-use Prim.Native.Nat.{◌-◌, ◌≤◌}
-use mathlib.Core.Path.{refl}
-use native.Mathlib.Omega.{arith}
-use borrow.Author.Rules.{rules}
+use Prim.Native.Nat.{◌-◌}
 use lib.ListN.{length, drop, take}
 use Rattle.stream.specs.Page.{whole_from}
 use Rattle.feed_audio.specs.Code.{measures_in, in_front, measured}
-use Rattle.feed_audio.proofs.Measuring.{Measuring, read_as, packable, fits, goes_on, refused, ends, all-measured}
+use Rattle.feed_audio.proofs.Measuring.{Measuring}
 use Rattle.feed_audio.proofs.packets.measure.Given as goal
 
 abbrev pub invariant-loop-i : goal.invariant-loop-i

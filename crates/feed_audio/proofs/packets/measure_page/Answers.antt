@@ -1,8 +1,7 @@
 -- `feed_audio::packets::measure_page` meets its contract: `Measuring.antt` has the held packet's cases. Assumes nothing.
-use Prim.Native.Nat.{ℕ, ◌+◌, ◌<◌, ◌≤◌}
+use Prim.Native.Nat.{◌<◌}
 use mathlib.Core.Path.{◌≡◌, refl, sym, ◌∙◌}
 use native.Mathlib.Omega.{arith}
-use borrow.Author.Rules.{rules}
 use lib.ListN.{length, length-set}
 use lib.Seq.{length-take-le}
 use Rattle.octets.specs.Octets.{total}
@@ -12,24 +11,6 @@ use Rattle.stream.specs.declared.Pending.TheVariants.{Nothing, Held, Dropped}
 use Rattle.feed_audio.specs.Code.{measures_in, Packable}
 use Rattle.feed_audio.proofs.Measuring.{read_as, packable, none_yet, first-sums, first-refused, first-measured}
 use Rattle.feed_audio.proofs.packets.measure_page.Goals as goal
-use Rattle.feed_audio.proofs.packets.measure_page.Lts as lts
-use Rattle.feed_audio.proofs.packets.measure_page.Tie as tie
-
-abbrev In-Legal : Type 0
-In-Legal = lts.After-known_told3 tie.the-claims tie.handed_pre tie.handed_post
-
--- the held packet lies in the carry buffer
-held : (c : goal.In-Held) → c.in-Held.n + c.args.bytes ≤ length c.args.carry.now
-held c =
-    let q : c.args.pending ≡ Held c.in-Held.n = c.in-Held.is in
-    rw q at c.requires.held
-
--- the held packet's measure, which fits one number
-abbrev measured : In-Legal → Measure
-measured c = c.contents.given.0.0.measure
-
-fits : (c : In-Legal) → Packable (measured c)
-fits c = packable _ _ _ (read_as c.read_packet.ensures c.in-Legal.is)
 
 pub measure-requires : goal.measure-requires
 unfolding total samples_of measures_in
@@ -44,26 +25,30 @@ measure-requires-in-Dropped c =
     record { few = fit.few; within = omega arith; bytes = omega arith; room = omega arith; one = omega arith; adds = refl; small = omega arith }
 
 pub overflow_add-whole : goal.overflow_add-whole
-overflow_add-whole c = omega (arith, held c.before.before)
+overflow_add-whole c =
+    let q : c.args.pending ≡ Held c.in-Held.n = c.in-Held.is in
+    omega (arith, rw q at c.requires.held)
 
 pub slice_bounds-read_packet-end : goal.slice_bounds-read_packet-end
-slice_bounds-read_packet-end c = sym (length-take-le _ _ (held c.before.before.before))
+slice_bounds-read_packet-end c =
+    let q : c.args.pending ≡ Held c.in-Held.n = c.in-Held.is in
+    sym (length-take-le _ _ (rw q at c.requires.held))
 
 pub packed-requires : goal.packed-requires
-packed-requires c = fits c.before.before.before
+packed-requires c = packable _ _ _ (read_as c.read_packet.ensures c.in-Legal.is)
 
 pub measure-requires-in-Legal : goal.measure-requires-in-Legal
 measure-requires-in-Legal c =
-    let got = c.before.before.before.before.before in
-    let fit = fits got in
-    let size : 0 < length got.args.measures.now = omega arith in
+    let m : Measure = c.in-Legal.contents.measure in
+    let fit : Packable m = packable _ _ _ (read_as c.read_packet.ensures c.in-Legal.is) in
+    let size : 0 < length c.args.measures.now = omega arith in
     record {
-      few = got.requires.few;
-      within = got.requires.within;
-      bytes = got.requires.rest;
+      few = c.requires.few;
+      within = c.requires.within;
+      bytes = c.requires.rest;
       room = simp length-set (omega arith);
       one = omega arith;
-      adds = rw c.packed.ensures (first-sums got.args.measures.now (measured got) size fit);
+      adds = rw c.packed.ensures (first-sums c.args.measures.now m size fit);
       small = omega (arith, fit.samples);
     }
 

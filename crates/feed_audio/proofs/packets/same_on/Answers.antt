@@ -1,5 +1,4 @@
 -- `feed_audio::packets::same_on` meets its contract. Assumes nothing.
-use borrow.Author.Rules.{rules}
 use Rattle.feed_audio.proofs.Alike.{on_page_lem}
 use Rattle.feed_audio.proofs.packets.same_on.Goals as goal
 

@@ -1,10 +1,7 @@
 -- `feed_audio::packets::same_packets` meets its contract: `Alike.antt` has the ways of a turn. Assumes nothing.
 use Prim.Native.Nat.{◌-◌}
-use native.Mathlib.Omega.{arith}
-use borrow.Author.Rules.{rules}
 use lib.ListN.{length}
-use Rattle.octets.proofs.Tests.{held}
-use Rattle.feed_audio.proofs.Alike.{Alikes, alikes_start, alike-fits, alike_on, alike-ends, all_alike}
+use Rattle.feed_audio.proofs.Alike.{Alikes}
 use Rattle.feed_audio.proofs.packets.same_packets.Given as goal
 
 abbrev pub invariant-loop-i : goal.invariant-loop-i

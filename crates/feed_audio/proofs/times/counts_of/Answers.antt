@@ -2,7 +2,6 @@
 use Prim.Native.Nat.{◌+◌, ◌-◌}
 use mathlib.Core.Path.{◌≡◌}
 use native.Mathlib.Omega.{arith}
-use borrow.Author.Rules.{rules}
 use Rattle.granule.specs.Samples.{skipped_of}
 use Rattle.granule.proofs.Counting.{samples_shared}
 use Rattle.feed_audio.proofs.times.counts_of.Goals as goal
@@ -18,11 +17,11 @@ pub overflow_sub-result : goal.overflow_sub-result
 overflow_sub-result c = omega (arith, shared c)
 
 pub overflow_sub-result-2 : goal.overflow_sub-result-2
-overflow_sub-result-2 c = omega (arith, shared c.before.before)
+overflow_sub-result-2 c = omega (arith, shared c.before)
 
 pub returns : goal.returns
 returns c =
     let a = c.args in
-    let all = shared c.before.before in
+    let all = shared c.before in
     let e : a.d - c.kept-kept.result - a.place.trimmed ≡ skipped_of a.skip a.last a.g a.place.from a.d = omega arith in
     rw (e, c.kept-kept.ensures, c.requires)

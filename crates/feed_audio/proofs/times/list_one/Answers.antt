@@ -1,6 +1,5 @@
 -- `feed_audio::times::list_one` meets its contract. Assumes nothing.
 use mathlib.Core.Path.{refl}
-use borrow.Author.Rules.{rules}
 use Rattle.feed_audio.proofs.times.list_one.Goals as goal
 
 pub returns : goal.returns

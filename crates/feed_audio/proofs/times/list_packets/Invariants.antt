@@ -1,14 +1,9 @@
 -- `feed_audio::times::list_packets` meets its contract: `Listing.antt` has a turn. Assumes nothing.
-use Prim.Native.Nat.{ℕ, ◌-◌}
-use mathlib.Core.Path.{◌≡◌, sym}
-use mathlib.Core.List.{List}
-use native.Mathlib.Omega.{arith}
-use borrow.Author.Rules.{rules}
-use lib.ListN.{get_or, take}
-use lib.Seq.{get_or-take, length-take-le}
+use Prim.Native.Nat.{◌-◌}
+use lib.ListN.{take}
 use Rattle.stream.specs.Feed.{entries}
 use Rattle.feed_audio.specs.Code.{measures_in}
-use Rattle.feed_audio.proofs.Listing.{Listing, begins, fits_next, placeable, lists, all_listed}
+use Rattle.feed_audio.proofs.Listing.{Listing}
 use Rattle.feed_audio.proofs.times.list_packets.Given as goal
 
 abbrev pub invariant-loop-i : goal.invariant-loop-i

@@ -1,13 +1,9 @@
 -- `feed_audio::times::list_same` meets its contract: `Listing.antt` has a turn. Assumes nothing.
 use Prim.Native.Nat.{◌-◌}
-use mathlib.Core.Path.{◌≡◌, sym}
-use native.Mathlib.Omega.{arith}
-use borrow.Author.Rules.{rules}
-use lib.ListN.{get_or, replicate, length-replicate, get_or-replicate}
+use lib.ListN.{replicate}
 use Rattle.stream.specs.Feed.{entries}
 use Rattle.feed_audio.specs.Code.{measures_in}
-use Rattle.feed_audio.proofs.Repeated.{take-replicate}
-use Rattle.feed_audio.proofs.Listing.{Listing, begins, fits_next, placeable, lists, all_listed}
+use Rattle.feed_audio.proofs.Listing.{Listing}
 use Rattle.feed_audio.proofs.times.list_same.Given as goal
 
 abbrev pub invariant-loop-i : goal.invariant-loop-i

@@ -1,6 +1,5 @@
 -- `feed_audio::times::time_page` meets its contract: `Timing.antt` has its cases. Assumes nothing.
 use mathlib.Core.Path.{◌≡◌}
-use borrow.Author.Rules.{rules}
 use Rattle.feed_audio.specs.declared.packets.Measured.TheVariants.{All, Refused}
 use Rattle.feed_audio.proofs.Timing.{unmeasured}
 use Rattle.feed_audio.proofs.times.time_page.Goals as goal
