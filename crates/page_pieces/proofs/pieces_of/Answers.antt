@@ -48,16 +48,17 @@ loop-i-preserved c =
     let in_l : at.i < length (take 255 s) = omega arith in
     let e : v ≡ get_or (take 255 s) at.i 0 = c.wide-v.ensures.same ∙ sym (get_or-take 255 s at.i 0 (omega arith)) in
     elim c.if-v-lt255.branch [
-    then-v-lt255 w ↦
-    let a : c.if-v-lt255.lengths ≡ set at.lengths at.count (at.bytes + v) = cc in
-    let m : c.if-v-lt255.count ≡ at.count + 1 = cc in
-    let z : c.if-v-lt255.bytes ≡ 0 = cc in
-    rw (a, m, z) (ends at.invariant e in_l w.if-v-lt255.true (omega arith))
-    | else-v-lt255 w ↦
-    let a : c.if-v-lt255.lengths ≡ at.lengths = cc in
-    let m : c.if-v-lt255.count ≡ at.count = cc in
-    let z : c.if-v-lt255.bytes ≡ at.bytes + v = cc in
-    rw (a, m, z) (goes_on at.invariant e in_l w.if-v-lt255.false c.wide-v.ensures.most) ]
+      | then-v-lt255 w ↦
+          let a : c.if-v-lt255.lengths ≡ set at.lengths at.count (at.bytes + v) = cc in
+          let m : c.if-v-lt255.count ≡ at.count + 1 = cc in
+          let z : c.if-v-lt255.bytes ≡ 0 = cc in
+          rw (a, m, z) (ends at.invariant e in_l w.if-v-lt255.true (omega arith))
+      | else-v-lt255 w ↦
+          let a : c.if-v-lt255.lengths ≡ at.lengths = cc in
+          let m : c.if-v-lt255.count ≡ at.count = cc in
+          let z : c.if-v-lt255.bytes ≡ at.bytes + v = cc in
+          rw (a, m, z) (goes_on at.invariant e in_l w.if-v-lt255.false c.wide-v.ensures.most)
+    ]
 
 pub returns : goal.returns
 returns c =
