@@ -14,8 +14,8 @@ use Rattle.stream.specs.Readings.{Readings, readings}
 use Rattle.stream.specs.Feed.{Reader, start, open_at, open_part_way, feed, Taken}
 use Rattle.stream.specs.Lent.{Lent}
 use Rattle.stream.specs.Stream.{head_of, marks}
-use Rattle.stream.specs.Feedings.{Feeding, finally, carry_left, HandedOn, Shown, stream, bytes_of, Marked, all_of, marked}
-use Rattle.stream.specs.Feedings.{RoomAtMarks, OthersRefused, told_at_marks, joined}
+use Rattle.stream.specs.Feedings.{Feeding, finally, carry_left, HandedOn, Shown, stream, bytes_of, Marked}
+use Rattle.stream.specs.Feedings.{told_at_marks, joined}
 use Rattle.stream.specs.CarryBuffer.{CarryIs, FeedingNumber}
 use Rattle.stream.specs.Unskipped.{SkipsNothing}
 use Rattle.stream.specs.Totals.{Totals, OpenedTotals}

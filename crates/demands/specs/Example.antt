@@ -19,8 +19,8 @@ use Rattle.limits.specs.Limits.{packet_max, list_max}
 use Rattle.stream.specs.Lent.{Lent, lent_of, is_short}
 use Rattle.stream.specs.Feed.{no_tally, Reader, start, open_part_way, Taken, feed}
 use Rattle.stream.specs.Stream.{head_of, Mark, marks, initial, holes, kept_count, trimmed_count}
-use Rattle.stream.specs.Feedings.{Feeding, feed_in, reader_after, HandedOn, stream, bytes_of, Marked, all_of, marked, RoomAtMarks}
-use Rattle.stream.specs.Feedings.{OthersRefused, told_at_marks, has_position}
+use Rattle.stream.specs.Feedings.{Feeding, feed_in, reader_after, stream, bytes_of, Marked, all_of}
+use Rattle.stream.specs.Feedings.{told_at_marks, has_position}
 use Rattle.stream.specs.Statements.{Followed, state_shifted, BytesShifted, view_of, AllOctets, audio_in, began_before, opened_in}
 
 abbrev pub R : Readings
