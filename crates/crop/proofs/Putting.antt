@@ -13,7 +13,7 @@ use Rattle.octets.proofs.Copying.{copied-fits, length-copied, copied-append}
 use Rattle.refusal.specs.Checks.{first_of}
 use Rattle.page_layout.specs.Places.{count_at}
 use Rattle.page_layout.specs.Page.{lacing_of, body_of}
-use Rattle.page_lacing.proofs.Bodies.{is_body}
+use Rattle.page_lacing.proofs.Bodies.{is_body_lem}
 use Rattle.page_size.specs.Size.{is_one_page}
 use Rattle.page_size.proofs.Whole.{lacing-length, body-length}
 use Rattle.page_writer.specs.declared.PageWritten.{PageWritten}
@@ -50,7 +50,7 @@ put_back p d out at r ys s room w =
     let size : page_size (lacing_of p) (body_of p) ≡ length p = size_same p one in
     let few : length (lacing_of p) ≤ 255 = omega (arith, s.octets.below count_at, lacing-length p one) in
     let clear : first_of (any_checks (lacing_of p) (body_of p) (length (mid_of at (length out - at) out))) ≡ none =
-    any_writable (lacing_of p) (body_of p) _ (is_body (lacing_of p) (body_of p) few (sym (body-length p one))) (omega arith) in
+    any_writable (lacing_of p) (body_of p) _ (is_body_lem (lacing_of p) (body_of p) few (sym (body-length p one))) (omega arith) in
     in_part out at (renumbered (back d) p) ys (omega (arith, same_size (back d) p s.octets s.good)) (w.output ∙ rw clear)
 
 -- ---- the pages from a place on

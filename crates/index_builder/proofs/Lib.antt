@@ -1,5 +1,3 @@
 pub mod Granules
 pub mod Seeking
-mod Again
 mod Filling
-mod Callees

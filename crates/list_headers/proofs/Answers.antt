@@ -1,9 +1,9 @@
 -- The ways of writing the lines of both headers, by what reading the packets tells. Assumes nothing.
 use mathlib.Core.Path.{◌≡◌, refl, sym, ap, ◌∙◌}
-use mathlib.Core.Bool.{Bool, true, false, not, ◌&&◌}
-use mathlib.Core.List.{List, [], ◌∷◌, ◌++◌}
+use mathlib.Core.Bool.{Bool, true, false, ◌&&◌}
+use mathlib.Core.List.{List, [], ◌∷◌}
 use mathlib.Core.Option.{Option, none, some}
-use Prim.Native.Nat.{ℕ, ◌≤◌, ◌<◌}
+use Prim.Native.Nat.{ℕ, ◌≤◌}
 use native.Mathlib.Omega.{arith}
 use borrow.Author.Tests.{leb-true, leb-false, le-leb, lt-ltb, le-ltb, ltb-false, not-false}
 use lib.Dec.{leb, ltb}
@@ -11,10 +11,10 @@ use lib.ListN.{length}
 use Rattle.octets.specs.Octets.{Bytes, begins}
 use Rattle.octets.proofs.Tests.{both}
 use Rattle.refusal.specs.declared.Refusal.{Refusal}
-use Rattle.refusal.specs.declared.Refusal.TheVariants.{ShortOutput, BadTags}
+use Rattle.refusal.specs.declared.Refusal.TheVariants.{ShortOutput}
 use Rattle.refusal.specs.Checks.{◌when◌, first_of, or_else}
 use Rattle.refusal.specs.Numbers.{number_of}
-use Rattle.refusal.specs.Told.{Told, gives, refuses, retold, decided}
+use Rattle.refusal.specs.Told.{gives, refuses, retold, decided}
 use Rattle.refusal.proofs.Checks.{first_of-append, no_refusal, passed}
 use Rattle.text_pieces.specs.Pieces.{begun, lay_all, joined}
 use Rattle.text_pieces.proofs.Whole.{all-fit, whole-text}
@@ -28,9 +28,9 @@ use Rattle.tags_reader.specs.Reading as tagsReading
 use Rattle.tags_reader.proofs.Finding.{length_texts}
 use Rattle.list_headers.specs.declared.HeadersWritten.{HeadersWritten}
 use Rattle.list_headers.specs.declared.HeadersWritten.TheVariants.{Refused}
-use Rattle.list_headers.specs.Text.{head_pieces, tags_pieces, header_pieces}
+use Rattle.list_headers.specs.Text.{tags_pieces, header_pieces}
 use Rattle.list_headers.specs.Code.{tags_found, both_found}
-use Rattle.list_headers.specs.Writing.{pieces_of, text_of, both_checks, write_checks, write_told, write_out, laid_in, told_laid, BothPut, Wrote}
+use Rattle.list_headers.specs.Writing.{pieces_of, text_of, both_checks, write_told, write_out, laid_in, told_laid, BothPut, Wrote}
 use Rattle.list_headers.specs.Statements.{WritesText}
 use Rattle.list_headers.proofs.Pieces.{all-comments}
 

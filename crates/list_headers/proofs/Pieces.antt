@@ -1,8 +1,8 @@
 -- Every line of the headers has a byte, and the lines that the code finds are those of the rules. Assumes nothing.
-use mathlib.Core.Path.{◌≡◌, refl, sym, ap, ◌∙◌}
-use mathlib.Core.Bool.{Bool, true, false, ◌&&◌}
-use mathlib.Core.List.{List, [], ◌∷◌, ◌++◌}
-use Prim.Native.Nat.{ℕ, zero, suc, ◌+◌, ◌/◌, ◌≤◌, ◌<◌}
+use mathlib.Core.Path.{◌≡◌, refl, ap}
+use mathlib.Core.Bool.{Bool, true, false}
+use mathlib.Core.List.{[], ◌∷◌}
+use Prim.Native.Nat.{ℕ, zero, suc, ◌+◌, ◌/◌, ◌≤◌}
 use native.Mathlib.Omega.{arith}
 use lib.IntN.{ℤ}
 use lib.ListN.{length, length-append}
@@ -15,7 +15,7 @@ use Rattle.head_fields.specs.declared.Head.{Head}
 use Rattle.head_fields.specs.Right.{used_places}
 use Rattle.head_matrix.proofs.Answers.{some-entry}
 use Rattle.head_lines.specs.Lines.{number_line, gain_line, mapping_line, entry_text}
-use Rattle.tags_layout.specs.Layout.{bytes_of, part_at, next_place, fits_at, all_fit, texts_from}
+use Rattle.tags_layout.specs.Layout.{next_place, fits_at, all_fit, texts_from}
 use Rattle.tags_lines.specs.Lines.{text_line, comment_line}
 use Rattle.list_headers.specs.Text.{entry_pieces, matrix_pieces, table_pieces, comment_pieces}
 use Rattle.list_headers.specs.Code.{found_entries, found_comments}

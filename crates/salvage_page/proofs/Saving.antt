@@ -4,7 +4,7 @@ use mathlib.Core.Option.{none}
 use Rattle.octets.specs.Octets.{Bytes}
 use Rattle.refusal.specs.Checks.{first_of}
 use Rattle.page_layout.specs.Places.{count_at}
-use Rattle.page_lacing.proofs.Bodies.{is_body}
+use Rattle.page_lacing.proofs.Bodies.{is_body_lem}
 use Rattle.page_size.proofs.Whole.{body-length}
 use Rattle.page_writer.specs.Writing.{page_bytes, any_checks, write_any_told, write_any_out}
 use Rattle.page_writer.proofs.Writing.{any_writable}
@@ -33,7 +33,7 @@ page-saved f n p out r end o one room w =
     let few : length k.lacing ≤ 255 = omega (arith, s.lacing, few-values p (o.below count_at)) in
     let fits : Fits k = without-fits f.lead f.trail (page_of p) (body-length p one) in
     let clear : first_of (any_checks k.lacing k.body (length out)) ≡ none =
-    (any_writable k.lacing k.body (length out) (is_body k.lacing k.body few (sym fits)) room) in
+    (any_writable k.lacing k.body (length out) (is_body_lem k.lacing k.body few (sym fits)) room) in
     record { told = w.told ∙ rw clear; output = w.output ∙ rw clear }
 
 pub any_place : AnyPlace

@@ -3,21 +3,14 @@ use mathlib.Core.Path.{ap}
 use native.Mathlib.Omega.{arith}
 use borrow.Author.Rules.{rules}
 use Rattle.recording_pages.specs.declared.Place.{Place}
-use Rattle.check_stream.specs.Code.{Headed, Tagged}
 use Rattle.check_stream.proofs.Finding.{short-told, found-told}
 use Rattle.check_stream.proofs.check_whole.Goals as goal
 
-headed : (c : goal.After-headers_end-headers) → Headed c.args.stream.now c.headers_end-headers.result.page
-headed c = record { accepted = c.requires; pages = ap (λ (p : Place). p.page) c.headers_end-headers.ensures }
-
-tagged : (c : goal.After-has_gain-gains) → Tagged c.args.stream.now c.headers_end-headers.result.page c.has_gain-gains.result
-tagged c = record { headed = headed c.before; tag = c.has_gain-gains.ensures }
-
 pub has_gain-gains-requires : goal.has_gain-gains-requires
-has_gain-gains-requires c = headed c
+has_gain-gains-requires c = record { accepted = c.requires; pages = ap (λ (p : Place). p.page) c.headers_end-headers.ensures }
 
 pub count-requires : goal.count-requires
-count-requires c = tagged c.before.before
+count-requires c = record { headed = record { accepted = c.requires; pages = ap (λ (p : Place). p.page) c.headers_end-headers.ensures }; tag = c.has_gain-gains.ensures }
 
 pub returns-then-least-count : goal.returns-then-least-count
 returns-then-least-count c =
@@ -25,11 +18,11 @@ returns-then-least-count c =
     short-told a.stream.now a.kinds.now a.pages.now c.least.result c.count.result c.least.ensures c.count.ensures (omega arith)
 
 pub find-requires : goal.find-requires
-find-requires c = tagged c.before.before.before.before.before.before
+find-requires c = record { headed = record { accepted = c.requires; pages = ap (λ (p : Place). p.page) c.headers_end-headers.ensures }; tag = c.has_gain-gains.ensures }
 
 pub returns : goal.returns
 returns c =
     let a = c.args in
     let find = c.find in
     found-told a.stream.now a.kinds.now a.pages.now c.least.result c.count.result c.least.ensures c.count.ensures
-    find.new.1.1.1.0 find.new.1.1.1.1.0 find.result (omega arith) find.ensures
+    find.new.kinds find.new.pages find.result (omega arith) find.ensures

@@ -23,14 +23,14 @@ turn-walk-requires c =
     record {
       tagged = c.requires.tagged;
       walked = l.invariant.0;
-      room = room-stays (lent_of a.carry.now a.ends.now a.lengths.now a.kept.now a.frames.now) (lent_of l.carry l.ends l.lengths l.auto l.frames) c.requires.room l.invariant.2 l.invariant.3 l.invariant.4 l.invariant.5 l.invariant.6;
+      room = room-stays (lent_of a.carry.now a.ends.now a.lengths.now a.kept.now a.frames.now) (lent_of l.carry l.ends l.lengths l.kept l.frames) c.requires.room l.invariant.2 l.invariant.3 l.invariant.4 l.invariant.5 l.invariant.6;
       more = omega arith;
     }
 
 pub put_found-count-requires : goal.put_found-count-requires
 put_found-count-requires c =
     let t = c.turn-walk.ensures in
-    omega (arith, c.loop-walk.invariant.1.few, t.page, t.walked.few, t.walked.begins.inside, c.well_formed.0)
+    omega (arith, c.loop-walk.invariant.1.few, t.page, t.walked.few, t.walked.begins.inside)
 
 pub loop-walk-smaller : goal.loop-walk-smaller
 loop-walk-smaller c =
@@ -44,7 +44,7 @@ loop-walk-preserved c =
     let turn = c.turn-walk in
     let put = c.put_found-count in (
       turn.ensures.walked,
-      storing_on a.stream.now l.walk turn.result turn.new.1.1.1.1.0 l.count put.result a.kinds.now l.kinds put.new.1.1.1.0 a.pages.now l.pages put.new.1.1.1.1.0
+      storing_on a.stream.now l.walk turn.result turn.new.carry l.count put.result a.kinds.now l.kinds put.new.kinds a.pages.now l.pages put.new.pages
           l.invariant.1 turn.ensures put.ensures c.kinds-1.given c.pages-1.given,
       c.carry-1.given ∙ l.invariant.2,
       c.ends-1.given ∙ l.invariant.3,

@@ -43,12 +43,11 @@ returns-then-walk-stream c =
 pub turn-walk-requires : goal.turn-walk-requires
 turn-walk-requires c =
     let l = c.loop-walk in
-    let headed = c.before.before.before in
     let a = c.args in
     record {
       walked = l.invariant.0;
-      room = room-stays (lent_of a.carry.now a.ends.now a.lengths.now a.kept.now a.frames.now) (lent_of l.carry l.ends l.lengths l.auto l.frames) c.requires.room l.invariant.2 l.invariant.3 l.invariant.4 l.invariant.5 l.invariant.6;
-      headed = ap (λ (p : Place). p.page) headed.headers_end-headers.ensures;
+      room = room-stays (lent_of a.carry.now a.ends.now a.lengths.now a.kept.now a.frames.now) (lent_of l.carry l.ends l.lengths l.kept l.frames) c.requires.room l.invariant.2 l.invariant.3 l.invariant.4 l.invariant.5 l.invariant.6;
+      headed = ap (λ (p : Place). p.page) c.headers_end-headers.ensures;
       more = omega (arith, c.if-walk-stream.false);
     }
 

@@ -10,29 +10,18 @@ use Rattle.recording.specs.Answers.{told_judged}
 use Rattle.recording.proofs.Streams.{whole_is}
 use Rattle.crop_start.proofs.Finding.{found-whole, found-refused}
 use Rattle.crop_start.proofs.find_start.Goals as goal
-use Rattle.crop_start.proofs.find_start.Lts as lts
-use Rattle.crop_start.proofs.find_start.Tie as tie
-
-abbrev After-judge : Type 0
-After-judge = lts.After-judge tie.the-claims tie.handed_pre tie.handed_post
-
-judged : (c : After-judge) {j : Judged} → c.judge.result ≡ j → judge_buffer (readings page_crc) c.args.stream.now ≡ told_judged j
-judged c e = sym c.judge.ensures ∙ ap told_judged e
 
 pub find_whole-requires : goal.find_whole-requires
 find_whole-requires c =
-    let call = c.before.before.before in
-    (whole_is (readings page_crc) (pages_of call.args.stream.now) _ _ (judged call c.in-Whole.is)).0.accepted
+    (whole_is (readings page_crc) (pages_of c.args.stream.now) _ _ (sym c.judge.ensures ∙ ap told_judged c.in-Whole.is)).0.accepted
 
 pub returns-in-Whole : goal.returns-in-Whole
 returns-in-Whole c =
-    let call = c.before.before.before.before.before in
-    let a = call.args in
+    let a = c.args in
     c.start_of.ensures
-    ∙ found-whole a.stream.now a.last a.position _ _ c.find_whole.result (judged call c.in-Whole.is) c.find_whole.ensures
+    ∙ found-whole a.stream.now a.last a.position _ _ c.find_whole.result (sym c.judge.ensures ∙ ap told_judged c.in-Whole.is) c.find_whole.ensures
 
 pub returns-in-Refused : goal.returns-in-Refused
 returns-in-Refused c =
-    let call = c.before.before.before.before in
-    let a = call.args in
-    found-refused a.stream.now a.last a.position _ _ (judged call c.in-Refused.is)
+    let a = c.args in
+    found-refused a.stream.now a.last a.position _ _ (sym c.judge.ensures ∙ ap told_judged c.in-Refused.is)

@@ -10,23 +10,6 @@ use Rattle.feed_fields.specs.Checked.{found}
 use Rattle.feed_header.specs.Code.{lacing_found}
 use Rattle.feed_header.proofs.HeadPage.{inside, head_below_12, head-refused, head-accepted}
 use Rattle.feed_header.proofs.feed_head.Goals as goal
-use Rattle.feed_header.proofs.feed_head.Lts as lts
-use Rattle.feed_header.proofs.feed_head.Tie as tie
-
-abbrev After-check_lacing : Type 0
-After-check_lacing = lts.After-check_lacing tie.the-claims tie.handed_pre tie.handed_post
-
-abbrev Start : Type 0
-Start = lts.Start tie.the-claims tie.handed_pre tie.handed_post
-
--- where the function starts
-abbrev start : After-check_lacing → Start
-start c = c.before.before.before.before
-
--- 9 to 11, as they were found
-lacing : (c : After-check_lacing) (r : Checked) → c.check_lacing.result ≡ r → (carry : Bytes)
-    → lacing_found (start c).args.core (start c).args.h carry (start c).args.lacing.now (start c).args.body.now ≡ found r
-lacing c r e carry = sym (c.check_lacing.ensures carry (start c).args.body.now) ∙ ap found e
 
 pub check_lacing-requires : goal.check_lacing-requires
 check_lacing-requires c =
@@ -35,29 +18,23 @@ check_lacing-requires c =
 pub returns-in-Right : goal.returns-in-Right
 returns-in-Right c =
     λ crc m.
-    let check = c.before.before.before.before in
-    let s = start check in
-    let a = s.args in
+    let a = c.args in
     rw (c.next_tally-after.ensures, c.no_counts-counts.ensures, c.next_core-core.ensures)
-    (head-accepted crc a.core a.tally m a.h a.lacing.now a.body.now s.pre.first s.pre.none_left s.pre.sums
-    (lacing check _ c.in-Passed.is m.carry) c.read_head-read.result.head
+    (head-accepted crc a.core a.tally m a.h a.lacing.now a.body.now c.requires.first c.requires.none_left c.requires.sums
+    (sym (c.check_lacing.ensures m.carry a.body.now) ∙ ap found c.in-Passed.is) c.read_head-read.result.head
     (sym c.read_head-read.ensures.told ∙ ap (λ (v : Verdict). told_by v c.read_head-read.result.head) c.in-Right.is))
 
 pub returns-in-Refused-verdict : goal.returns-in-Refused-verdict
 returns-in-Refused-verdict c =
     λ crc m.
-    let check = c.before.before.before.before in
-    let s = start check in
-    let a = s.args in
-    head-refused crc a.core a.tally m a.h a.lacing.now a.body.now s.pre.first s.pre.none_left s.pre.sums
-    (lacing check _ c.in-Passed.is m.carry) c.in-Refused-verdict.why
+    let a = c.args in
+    head-refused crc a.core a.tally m a.h a.lacing.now a.body.now c.requires.first c.requires.none_left c.requires.sums
+    (sym (c.check_lacing.ensures m.carry a.body.now) ∙ ap found c.in-Passed.is) c.in-Refused-verdict.why
     (sym c.read_head-read.ensures.told ∙ ap (λ (v : Verdict). told_by v c.read_head-read.result.head) c.in-Refused-verdict.is)
 
 pub returns-in-Refused : goal.returns-in-Refused
 returns-in-Refused c =
     λ crc m.
-    let check = c.before.before.before in
-    let s = start check in
-    let a = s.args in
-    head_below_12 crc a.core a.tally m a.h a.lacing.now a.body.now s.pre.first s.pre.none_left c.in-Refused.why
-    (lacing check _ c.in-Refused.is m.carry)
+    let a = c.args in
+    head_below_12 crc a.core a.tally m a.h a.lacing.now a.body.now c.requires.first c.requires.none_left c.in-Refused.why
+    (sym (c.check_lacing.ensures m.carry a.body.now) ∙ ap found c.in-Refused.is)

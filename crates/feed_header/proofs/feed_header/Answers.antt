@@ -7,54 +7,35 @@ use Rattle.stream.specs.Lent.{with_carry}
 use Rattle.stream.specs.Readings.{readings}
 use Rattle.feed_header.proofs.Fitting.{tested, head-due, comment-due, not-due, due}
 use Rattle.feed_header.proofs.feed_header.Goals as goal
-use Rattle.feed_header.proofs.feed_header.Lts as lts
-use Rattle.feed_header.proofs.feed_header.Tie as tie
-
-abbrev After-is_fed : Type 0
-After-is_fed = lts.After-is_fed tie.the-claims tie.handed_pre tie.handed_post
-
-abbrev Start : Type 0
-Start = lts.Start tie.the-claims tie.handed_pre tie.handed_post
-
--- where the function starts
-abbrev start : After-is_fed → Start
-start c = c.before.before.before.before
-
--- past the test
-passed : (c : goal.Else-not-is_fed)
-    → tested (start c.before).args.core (start c.before).args.lacing.now (start c.before).args.body.now
-    (start c.before).args.carry.now ≡ true
-passed c = held c.is_fed.ensures c.if-not-is_fed.false
 
 pub returns-then-not-is_fed : goal.returns-then-not-is_fed
 returns-then-not-is_fed c =
-    let a = (start c.before.before).args in
+    λ crc m.
+    let a = c.args in
     not-due a.core a.lacing.now a.body.now a.carry.now (readings crc) a.tally a.h m
     (failed c.is_fed.ensures c.if-not-is_fed.true)
 
 pub feed_head-requires : goal.feed_head-requires
 feed_head-requires c =
-    let fed = c.before.before.before in
-    let a = (start fed.before).args in
-    head-due a.core a.lacing.now a.body.now a.carry.now (passed fed) (sym c.is_first.ensures ∙ c.if-is_first.true)
+    let a = c.args in
+    head-due a.core a.lacing.now a.body.now a.carry.now (held c.is_fed.ensures c.if-not-is_fed.false) (sym c.is_first.ensures ∙ c.if-is_first.true)
 
 pub returns-then-is_first : goal.returns-then-is_first
 returns-then-is_first c =
-    let fed = c.before.before.before.before in
-    let a = (start fed.before).args in
-    due a.core a.lacing.now a.body.now a.carry.now (readings crc) a.tally a.h m (passed fed) c.feed_head.result
+    λ crc m.
+    let a = c.args in
+    due a.core a.lacing.now a.body.now a.carry.now (readings crc) a.tally a.h m (held c.is_fed.ensures c.if-not-is_fed.false) c.feed_head.result
     (c.feed_head.ensures crc (with_carry m a.carry.now))
 
 pub feed_comment-requires : goal.feed_comment-requires
 feed_comment-requires c =
-    let fed = c.before.before.before in
-    let a = (start fed.before).args in
-    comment-due a.core a.lacing.now a.body.now a.carry.now (passed fed)
+    let a = c.args in
+    comment-due a.core a.lacing.now a.body.now a.carry.now (held c.is_fed.ensures c.if-not-is_fed.false)
     (sym c.is_first.ensures ∙ c.if-is_first.false)
 
 pub returns : goal.returns
 returns c =
-    let fed = c.before.before.before.before.before in
-    let a = (start fed.before).args in
-    due a.core a.lacing.now a.body.now a.carry.now (readings crc) a.tally a.h m (passed fed) c.feed_comment.result
+    λ crc m.
+    let a = c.args in
+    due a.core a.lacing.now a.body.now a.carry.now (readings crc) a.tally a.h m (held c.is_fed.ensures c.if-not-is_fed.false) c.feed_comment.result
     (c.feed_comment.ensures crc m)

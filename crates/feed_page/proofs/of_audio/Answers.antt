@@ -10,6 +10,7 @@ use Rattle.feed_page.proofs.of_audio.Goals as goal
 
 pub returns-in-Page : goal.returns-in-Page
 returns-in-Page c =
+    λ t e.
     let kept = c.made_again.ensures in
     let q : c.args.fed ≡ Page c.in-Page.page = cc in
     let same = sym (ap told_audio q) ∙ e in
@@ -17,6 +18,7 @@ returns-in-Page c =
 
 pub returns-in-NotAudio : goal.returns-in-NotAudio
 returns-in-NotAudio c =
+    λ t e.
     let q : c.args.fed ≡ NotAudio = cc in
     let same = sym (ap told_audio q) ∙ e in
     let z : ◌≡◌ {A = ℕ} 0 1 = cc in

@@ -4,7 +4,7 @@ use mathlib.Core.Path.{◌≡◌, refl, sym, ap, ◌∙◌}
 use native.Mathlib.Omega.{arith}
 use borrow.Author.Rules.{rules}
 use lib.ListN.{length}
-use Rattle.octets.specs.Octets.{Bytes}
+use Rattle.octets.specs.Octets.{Bytes, Octets}
 use Rattle.page_crc_tables.specs.Table.{entry_in}
 use Rattle.page_crc.specs.Sliced.{page_sliced}
 use Rattle.stream.specs.Readings.{Readings, readings}
@@ -18,65 +18,33 @@ use Rattle.feed_pages.specs.Run.{Reached, goes, turn, Ended, runs, feed_pages, I
 use Rattle.feed_pages.specs.Answers.{reached, told_stop, told_turn}
 use Rattle.feed_pages.proofs.Turns.{Onward, turn-onward, run_goes, run_stops}
 use Rattle.feed_pages.proofs.run.Goals as goal
-use Rattle.feed_pages.proofs.run.Lts as lts
-use Rattle.feed_pages.proofs.run.Tie as tie
-
-abbrev After-feed_next : Type 0
-After-feed_next = lts.After-feed_next tie.the-claims tie.handed_pre tie.handed_post goal.the-invariant-loop-next goal.the-decreases-loop-next
-
-abbrev After-shared_slice_known-1 : Type 0
-After-shared_slice_known-1 = lts.After-shared_slice_known tie.the-claims tie.handed_pre tie.handed_post goal.the-invariant-loop-next goal.the-decreases-loop-next
 
 no_page_yet : (n : ℕ) (R : Readings) (b : Bytes) (a : Reached) (m : Lent) → runs (n - 0) R b a m ≡ runs n R b a m
 no_page_yet n R b a m = let all : n - 0 ≡ n = omega arith in rw all
 
--- where a turn has ended
-module _ (c : After-feed_next) where
-  abbrev known : After-shared_slice_known-1
-  known = c.before.before.before.before.before.before.before.before.before.before.before.before
-
-  abbrev b : Bytes
-  b = known.args.buffer.now
-
-  abbrev R : Readings
-  R = readings (page_sliced (entry_in known.args.tables.now))
-
-  abbrev p : Progress
-  p = c.loop-next.progress
-
-  abbrev m : Lent
-  m = (let l = c.loop-next in lent_of l.carry l.ends l.lengths l.auto l.frames)
-
-  abbrev end : Lent
-  end = (let l = c.feed_next.new in lent_of l.1.1.1.0 l.1.1.1.1.0 l.1.1.1.1.1.0 l.1.1.1.1.1.1.0 l.1.1.1.1.1.1.1.0)
-
-  abbrev all : Ended
-  all = (let a = known.args in feed_pages R (known_as a.reader) (lent_of a.carry.now a.ends.now a.lengths.now a.kept.now a.frames.now) b)
-
-  fits : Inside (reached p) b m
-  fits = c.loop-next.invariant.1
-
+-- where a turn over b has ended, from p on with m lent, and with `end` after it
+module _ (R : Readings) (b : Bytes) (o : Octets b) (p : Progress) (m end : Lent) (all : Ended) (turned : Turn) (is : told_turn turned end ≡ turn R b (reached p) m)
+    (fits : Inside (reached p) b m) (whole : runs (suc (length b) - p.pages) R b (reached p) m ≡ all) where
   -- the pages that are left, this turn's included
   rest : runs (suc (length b - p.pages)) R b (reached p) m ≡ all
-  unfolding feed_pages
   rest =
       let left : suc (length b - p.pages) ≡ suc (length b) - p.pages = omega (arith, fits.few, fits.bytes) in
-      ap (λ (k : ℕ). runs k R b (reached p) m) left ∙ c.loop-next.invariant.0
+      ap (λ (k : ℕ). runs k R b (reached p) m) left ∙ whole
 
-  module _ {next : Progress} (q : c.feed_next.result ≡ Goes next) where
+  module _ {next : Progress} (q : turned ≡ Goes next) where
     told : goes (reached next) end ≡ turn R b (reached p) m
-    told = sym (ap (λ (t : Turn). told_turn t end) q) ∙ c.feed_next.ensures
+    told = sym (ap (λ (t : Turn). told_turn t end) q) ∙ is
 
     onward : Onward (reached p) b (reached next) end
-    onward = turn-onward R b (record { below = λ (i : ℕ). (known.shared_slice_known-1.given i).fits }) (reached p) m fits (sym told)
+    onward = turn-onward R b o (reached p) m fits (sym told)
 
     rest_on : runs (suc (length b) - next.pages) R b (reached next) end ≡ all
     rest_on =
         let left : suc (length b) - next.pages ≡ length b - p.pages = omega (arith, onward.page) in
         ap (λ (k : ℕ). runs k R b (reached next) end) left ∙ sym (run_goes R b (reached p) m (length b - p.pages) told) ∙ rest
 
-  stopped : {why : Stop} → c.feed_next.result ≡ Stops why → record { reached = reached p; why = told_stop why; lent = end } ≡ all
-  stopped q = sym (run_stops R b (reached p) m (length b - p.pages) (sym (ap (λ (t : Turn). told_turn t end) q) ∙ c.feed_next.ensures)) ∙ rest
+  stopped : {why : Stop} → turned ≡ Stops why → record { reached = reached p; why = told_stop why; lent = end } ≡ all
+  stopped q = sym (run_stops R b (reached p) m (length b - p.pages) (sym (ap (λ (t : Turn). told_turn t end) q) ∙ is)) ∙ rest
 
 pub loop-next-init : goal.loop-next-init
 loop-next-init c = (
@@ -94,16 +62,28 @@ feed_next-requires c = c.loop-next.invariant.1
 
 pub loop-next-smaller : goal.loop-next-smaller
 loop-next-smaller c =
-    let on = onward c.before.before.before.before.before.before.before.before.before.before.before.before.before.before c.in-Goes.is in
+    let l = c.loop-next in
+    let n = c.feed_next.new in
+    let b : Bytes = c.args.buffer.now in
+    let R : Readings = readings (page_sliced (entry_in c.args.tables.now)) in
+    let o : Octets b = record { below = λ (i : ℕ). (c.shared_slice_known-1.given i).fits } in
+    let m : Lent = lent_of l.carry l.ends l.lengths l.kept l.frames in
+    let end : Lent = lent_of n.carry n.ends n.lengths n.kept n.frames in
+    let on = onward R b o l.progress m end _ _ c.feed_next.ensures l.invariant.1 l.invariant.0 c.in-Goes.is in
     omega (arith, on.moves, on.fits.bytes)
 
 pub loop-next-preserved : goal.loop-next-preserved
-unfolding feed_pages
 loop-next-preserved c =
-    let call = c.before.before.before.before.before.before.before.before.before.before.before.before.before.before in
-    let inv = call.loop-next.invariant in (
-      rest_on call c.in-Goes.is,
-      (onward call c.in-Goes.is).fits,
+    let l = c.loop-next in
+    let n = c.feed_next.new in
+    let b : Bytes = c.args.buffer.now in
+    let R : Readings = readings (page_sliced (entry_in c.args.tables.now)) in
+    let o : Octets b = record { below = λ (i : ℕ). (c.shared_slice_known-1.given i).fits } in
+    let m : Lent = lent_of l.carry l.ends l.lengths l.kept l.frames in
+    let end : Lent = lent_of n.carry n.ends n.lengths n.kept n.frames in
+    let inv = l.invariant in (
+      rest_on R b o l.progress m end _ _ c.feed_next.ensures inv.1 inv.0 c.in-Goes.is,
+      (onward R b o l.progress m end _ _ c.feed_next.ensures inv.1 inv.0 c.in-Goes.is).fits,
       c.carry-1.given ∙ inv.2,
       c.ends-1.given ∙ inv.3,
       c.lengths-1.given ∙ inv.4,
@@ -127,4 +107,13 @@ pub shape_of-frames-in-Stops : goal.shape_of-frames-in-Stops
 shape_of-frames-in-Stops c = c.frames-1.given ∙ c.loop-next.invariant.6
 
 pub returns-in-Stops : goal.returns-in-Stops
-returns-in-Stops c = stopped c.before.before.before.before.before.before.before.before.before.before.before.before.before.before c.in-Stops.is
+unfolding feed_pages
+returns-in-Stops c =
+    let l = c.loop-next in
+    let n = c.feed_next.new in
+    let b : Bytes = c.args.buffer.now in
+    let R : Readings = readings (page_sliced (entry_in c.args.tables.now)) in
+    let o : Octets b = record { below = λ (i : ℕ). (c.shared_slice_known-1.given i).fits } in
+    let m : Lent = lent_of l.carry l.ends l.lengths l.kept l.frames in
+    let end : Lent = lent_of n.carry n.ends n.lengths n.kept n.frames in
+    stopped R b o l.progress m end _ _ c.feed_next.ensures l.invariant.1 l.invariant.0 c.in-Stops.is

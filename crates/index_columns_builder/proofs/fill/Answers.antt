@@ -39,7 +39,7 @@ loop-w-preserved c =
     let start = c.before.before.before.before.before.before.before in
     let args = start.args in
     filled_goes_on args.stream.now args.granules.now args.places.now args.sequences.now c.loop-w.w
-    c.loop-w.granules c.loop-w.places c.loop-w.sequences c.next-w.ensures (omega arith) (stream-fits start)
+    c.loop-w.granules c.loop-w.places c.loop-w.sequences c.next-w.ensures (omega arith) (stream-fits start.before.before.before.before.before.before.before.before.before.before.before.before.before.before)
     (granules-fit start) (places-fit start) (sequences-fit start) c.store_at.ensures.granule
     c.store_at.ensures.place c.store_at.ensures.sequence c.loop-w.invariant
 

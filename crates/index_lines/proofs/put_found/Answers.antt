@@ -1,5 +1,4 @@
 -- `index_lines::put_found` meets its contract: four numbers, a space between them. Assumes nothing.
-use borrow.Author.Rules.{rules}
 use Rattle.list_lines.specs.Lines.{entry_line}
 use Rattle.index_lines.specs.Lines.{found_line}
 use Rattle.index_lines.proofs.put_found.Goals as goal

@@ -1,11 +1,6 @@
 -- `index_lines::put_records` meets its contract. The loop's invariant: i lines are put. Assumes nothing.
-use mathlib.Core.Path.{sym, ◌∙◌}
-use Prim.Native.Nat.{◌-◌, ◌<◌}
-use native.Mathlib.Omega.{arith}
-use borrow.Author.Rules.{rules}
-use lib.ListN.{length}
-use Rattle.index_lines.proofs.Lines.{record-most}
-use Rattle.index_lines.proofs.Records.{Done, done-starts, same_size, all_done, no_room, one_more}
+use Prim.Native.Nat.{◌-◌}
+use Rattle.index_lines.proofs.Records.{Done}
 use Rattle.index_lines.proofs.put_records.Given as goal
 
 abbrev pub invariant-loop-i : goal.invariant-loop-i

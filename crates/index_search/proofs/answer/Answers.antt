@@ -1,5 +1,4 @@
 -- `index_search::answer` meets its contract. Assumes nothing.
-use borrow.Author.Rules.{rules}
 use Rattle.index_search.proofs.Ends.{found_some, found_none}
 use Rattle.index_search.proofs.answer.Goals as goal
 

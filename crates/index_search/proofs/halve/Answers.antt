@@ -1,6 +1,5 @@
 -- `index_search::halve` meets its contract. Assumes nothing.
 use native.Mathlib.Omega.{arith}
-use borrow.Author.Rules.{rules}
 use borrow.Author.Tests.{le-leb, lt-leb}
 use Rattle.index_search.specs.Search.{halved}
 use Rattle.index_search.proofs.Steps.{place-within}

@@ -1,5 +1,4 @@
 -- `index_search::place` meets its contract. Assumes nothing.
-use borrow.Author.Rules.{rules}
 use Rattle.index_search.specs.Search.{place_of}
 use Rattle.index_search.proofs.place.Goals as goal
 

@@ -1,5 +1,4 @@
 -- `index_search::scan` meets its contract. Assumes nothing.
-use borrow.Author.Rules.{rules}
 use borrow.Author.Tests.{lt-ltb, le-ltb}
 use Rattle.index_search.specs.Search.{scanned}
 use Rattle.index_search.proofs.scan.Goals as goal

@@ -1,5 +1,4 @@
 -- `index_search::step` meets its contract. Assumes nothing.
-use borrow.Author.Rules.{rules}
 use borrow.Author.Tests.{lt-ltb, le-ltb}
 use Rattle.index_search.specs.Search.{step_of}
 use Rattle.index_search.proofs.step.Goals as goal

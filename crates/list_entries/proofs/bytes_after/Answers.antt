@@ -1,7 +1,6 @@
 -- `list_entries::bytes_after` meets its contract. Assumes nothing.
 use mathlib.Core.Path.{sym, ◌∙◌}
 use native.Mathlib.Omega.{arith}
-use borrow.Author.Rules.{rules}
 use Rattle.list_entries.proofs.Reading.{length-tail}
 use Rattle.list_entries.proofs.bytes_after.Goals as goal
 

@@ -1,5 +1,4 @@
 -- `list_entries::put_again` meets its contract. Assumes nothing.
-use borrow.Author.Rules.{rules}
 use Rattle.list_entries.proofs.Laying.{laid-again}
 use Rattle.list_entries.proofs.put_again.Goals as goal
 

@@ -1,38 +1,28 @@
 -- `list_headers::put_comments` meets its contract. The loop's invariant: what is left makes the same of what was put. Assumes
 -- nothing.
 use mathlib.Core.Path.{◌≡◌, refl, sym, ap, ◌∙◌}
-use Prim.Native.Nat.{◌+◌}
 use native.Mathlib.Omega.{arith}
-use borrow.Author.Rules.{rules}
 use lib.ListN.{length}
-use Rattle.octets.specs.Octets.{Bytes}
 use Rattle.octets.proofs.Copying.{length-copied}
 use Rattle.refusal.specs.Told.{gives}
 use Rattle.text_put.proofs.Putting.{put-known}
-use Rattle.text_pieces.specs.Pieces.{laying, lay_all}
+use Rattle.text_pieces.specs.Pieces.{laying}
 use Rattle.text_pieces.proofs.Laying.{one_piece}
 use Rattle.tags_layout.specs.Layout.{bytes_of}
 use Rattle.tags_layout.specs.Finding.{find_text, told_part}
 use Rattle.tags_lines.specs.Lines.{comment_line}
-use Rattle.list_headers.specs.Code.{found_comments}
 use Rattle.list_headers.proofs.Pieces.{some-comment}
 use Rattle.list_headers.proofs.Turns.{again, none_left, no_comments, comment-found, comment-missing, text-inside}
 use Rattle.list_headers.proofs.put_comments.Goals as goal
-use Rattle.list_headers.proofs.put_comments.Lts as lts
-use Rattle.list_headers.proofs.put_comments.Tie as tie
-
--- the part that was found
-module _ (c : goal.In-Found) where
-  found : find_text c.args.b.now c.loop-left.place ≡ gives c.in-Found.part
-  found = sym c.find_text.ensures ∙ ap told_part c.in-Found.is
 
 pub loop-left-init : goal.loop-left-init
 loop-left-init c = (refl, refl)
 
 pub overflow_add-place : goal.overflow_add-place
 overflow_add-place c =
-    let arm = c.before.before.before.before.before.before.before.before.before in
-    omega (arith, text-inside arm.args.b.now arm.loop-left.place arm.in-Found.part (found arm))
+    -- the part that was found
+    let found : find_text c.args.b.now c.loop-left.place ≡ gives c.in-Found.part = sym c.find_text.ensures ∙ ap told_part c.in-Found.is in
+    omega (arith, text-inside c.args.b.now c.loop-left.place c.in-Found.part found)
 
 pub returns-in-Refused : goal.returns-in-Refused
 returns-in-Refused c =
@@ -49,16 +39,16 @@ loop-left-smaller c = omega arith
 
 pub loop-left-preserved : goal.loop-left-preserved
 loop-left-preserved c =
-    let arm = c.before.before.before.before.before in
-    let a = arm.args in
+    let found : find_text c.args.b.now c.loop-left.place ≡ gives c.in-Found.part = sym c.find_text.ensures ∙ ap told_part c.in-Found.is in
+    let a = c.args in
     let b = a.b.now in
-    let part = arm.in-Found.part in
+    let part = c.in-Found.part in
     let line = comment_line (bytes_of b part) in
     let known = put-known (ap comment_line c.part_of-comment.ensures) c.put_comment.ensures in
-    let moved = one_piece arm.loop-left.p line (some-comment (bytes_of b part)) c.after-p.ensures known in
-    let next = comment-found b arm.loop-left.left arm.loop-left.place part arm.loop-left-test.true (found arm) in
-    let size = ap length known.output ∙ length-copied arm.loop-left.out arm.loop-left.p.at line in
-    (again (laying arm.loop-left.p arm.loop-left.out) _ _ line _ _ moved next arm.loop-left.invariant.0, size ∙ arm.loop-left.invariant.1)
+    let moved = one_piece c.loop-left.p line (some-comment (bytes_of b part)) c.after-p.ensures known in
+    let next = comment-found b c.loop-left.left c.loop-left.place part c.loop-left-test.true found in
+    let size = ap length known.output ∙ length-copied c.loop-left.out c.loop-left.p.at line in
+    (again (laying c.loop-left.p c.loop-left.out) _ _ line _ _ moved next c.loop-left.invariant.0, size ∙ c.loop-left.invariant.1)
 
 pub returns : goal.returns
 returns c =

@@ -1,6 +1,5 @@
 -- `list_headers::put_counts` meets its contract: three lines, one after the other. Assumes nothing.
-use mathlib.Core.Path.{◌≡◌, ap, ◌∙◌}
-use borrow.Author.Rules.{rules}
+use mathlib.Core.Path.{ap, ◌∙◌}
 use Rattle.text_pieces.specs.Pieces.{Laying, laid, lay_all}
 use Rattle.head_lines.specs.Lines.{number_line}
 use Rattle.list_headers.specs.Names.{streams_is, coupled_is}

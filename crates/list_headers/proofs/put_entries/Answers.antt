@@ -1,7 +1,6 @@
 -- `list_headers::put_entries` meets its contract. The loop's invariant: what is left makes the same of what was put. Assumes
 -- nothing.
 use mathlib.Core.Path.{◌≡◌, refl, sym, ap, ◌∙◌}
-use Prim.Native.Nat.{◌+◌}
 use native.Mathlib.Omega.{arith}
 use borrow.Author.Rules.{rules}
 use lib.ListN.{length}
@@ -9,11 +8,10 @@ use mir.Syntax.{w16}
 use mir.Val.{to_z, of_z}
 use Rattle.octets.proofs.Copying.{length-copied}
 use Rattle.text_put.proofs.Putting.{put-known}
-use Rattle.text_pieces.specs.Pieces.{laying, lay_all}
+use Rattle.text_pieces.specs.Pieces.{laying}
 use Rattle.text_pieces.proofs.Laying.{one_piece}
 use Rattle.head_matrix.specs.Matrix.{told_entry}
 use Rattle.head_lines.specs.Lines.{entry_text}
-use Rattle.list_headers.specs.Code.{found_entries}
 use Rattle.list_headers.proofs.Pieces.{some-entry_text}
 use Rattle.list_headers.proofs.Turns.{again, none_left, no_entries, entry_next, entry-none}
 use Rattle.list_headers.proofs.put_entries.Goals as goal

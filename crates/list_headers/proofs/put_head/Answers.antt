@@ -1,7 +1,6 @@
 -- `list_headers::put_head` meets its contract. Assumes nothing.
 use mathlib.Core.Path.{◌≡◌, sym, ap, ◌∙◌}
 use mathlib.Core.List.{List, ◌++◌}
-use borrow.Author.Rules.{rules}
 use Rattle.octets.specs.Octets.{Bytes}
 use Rattle.text_pieces.specs.Pieces.{Laying, laying, lay_all}
 use Rattle.text_pieces.proofs.Laying.{lay_append}

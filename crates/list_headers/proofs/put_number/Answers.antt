@@ -1,6 +1,4 @@
 -- `list_headers::put_number` meets its contract. Assumes nothing.
-use mathlib.Core.Path.{◌≡◌}
-use borrow.Author.Rules.{rules}
 use Rattle.text_pieces.proofs.Laying.{one_piece}
 use Rattle.head_lines.specs.Lines.{number_line}
 use Rattle.list_headers.proofs.Pieces.{some_number}

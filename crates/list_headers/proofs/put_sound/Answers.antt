@@ -9,21 +9,13 @@ use Rattle.text_pieces.proofs.Laying.{one_piece}
 use Rattle.head_lines.specs.Lines.{gain_line}
 use Rattle.list_headers.proofs.Pieces.{some-gain}
 use Rattle.list_headers.proofs.put_sound.Goals as goal
-use Rattle.list_headers.proofs.put_sound.Lts as lts
-use Rattle.list_headers.proofs.put_sound.Tie as tie
-
-abbrev Start : Type 0
-Start = lts.Start tie.the-claims tie.handed_pre tie.handed_post
-
--- the gain is in its width
-kept : (c : Start) → to_z w16 (of_z w16 c.args.h.gain) ≡ c.args.h.gain
-kept c = search rules
 
 pub returns : goal.returns
 unfolding lay_all
 returns c =
-    let start = c.before.before.before.before.before.before.before in
-    let h = start.args.h in
-    let put = put-known (ap gain_line (kept start)) c.put_gain.ensures in
+    -- the gain is in its width
+    let kept : to_z w16 (of_z w16 c.args.h.gain) ≡ c.args.h.gain = search rules in
+    let h = c.args.h in
+    let put = put-known (ap gain_line kept) c.put_gain.ensures in
     one_piece c.put_number-p.result (gain_line h.gain) (some-gain h.gain) c.after.ensures put
     ∙ ap (λ (l : Laying). laid l (gain_line h.gain)) c.put_number-p.ensures

@@ -1,6 +1,5 @@
 -- `list_headers::put_table` meets its contract. Assumes nothing.
-use mathlib.Core.Path.{◌≡◌, sym, ap, ◌∙◌}
-use borrow.Author.Rules.{rules}
+use mathlib.Core.Path.{sym, ap, ◌∙◌}
 use Rattle.text_pieces.specs.Pieces.{laying, lay_all}
 use Rattle.text_pieces.proofs.Laying.{one_piece}
 use Rattle.head_fields.specs.Right.{used_places}

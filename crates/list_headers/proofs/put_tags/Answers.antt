@@ -1,7 +1,6 @@
 -- `list_headers::put_tags` meets its contract. Assumes nothing.
-use mathlib.Core.Path.{◌≡◌, ap, ap₂, ◌∙◌}
+use mathlib.Core.Path.{ap, ap₂, ◌∙◌}
 use Prim.Native.Nat.{ℕ}
-use borrow.Author.Rules.{rules}
 use lib.ListN.{take, drop}
 use Rattle.octets.specs.Octets.{Bytes}
 use Rattle.text_put.specs.Marks.{line_feed}

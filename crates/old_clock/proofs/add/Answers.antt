@@ -1,7 +1,6 @@
 -- `old_clock::add` meets its contract. Assumes nothing.
 use mathlib.Core.Path.{sym}
 use native.Mathlib.Omega.{arith}
-use borrow.Author.Rules.{rules}
 use Rattle.octets.proofs.Tests.{failed, held}
 use Rattle.old_clock.proofs.Adding.{right_length_lem, wrong-length, past-most, taken}
 use Rattle.old_clock.proofs.add.Goals as goal

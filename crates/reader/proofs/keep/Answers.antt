@@ -7,6 +7,7 @@ use Rattle.reader.proofs.keep.Goals as goal
 
 pub returns-in-Accepted : goal.returns-in-Accepted
 returns-in-Accepted c =
+    λ f after is.
     let core = c.in-Accepted.core in
     let tally = c.in-Accepted.tally in
     let counts = c.in-Accepted.counts in
@@ -15,6 +16,7 @@ returns-in-Accepted c =
 
 pub returns-in-Refused : goal.returns-in-Refused
 returns-in-Refused c =
+    λ f after is.
     let why = c.in-Refused.why in
     let q : c.args.fed ≡ Refused why = cc in
     state-refused why (rw q at is)

@@ -7,8 +7,8 @@ use Rattle.recording.proofs.feed_run.Goals as goal
 
 pub judge_run-requires : goal.judge_run-requires
 judge_run-requires c =
-    sums-fit page_crc c.args.buffer.now c.args.before (lent_of c.args.carry.now c.args.ends.now c.args.lengths.now c.args.kept.now c.args.frames.now) (let l = c.feed_pages-fed.new in lent_of l.1.1.0 l.1.1.1.0 l.1.1.1.1.0 l.1.1.1.1.1.0 l.1.1.1.1.1.1.0) c.feed_pages-fed.result c.requires c.feed_pages-fed.ensures
+    sums-fit page_crc c.args.buffer.now c.args.before (lent_of c.args.carry.now c.args.ends.now c.args.lengths.now c.args.kept.now c.args.frames.now) (let l = c.feed_pages-fed.new in lent_of l.carry l.ends l.lengths l.kept l.frames) c.feed_pages-fed.result c.requires c.feed_pages-fed.ensures
 
 pub returns : goal.returns
 returns c =
-    step_is page_crc c.args.buffer.now c.args.before (lent_of c.args.carry.now c.args.ends.now c.args.lengths.now c.args.kept.now c.args.frames.now) (let l = c.feed_pages-fed.new in lent_of l.1.1.0 l.1.1.1.0 l.1.1.1.1.0 l.1.1.1.1.1.0 l.1.1.1.1.1.1.0) c.feed_pages-fed.result c.requires c.feed_pages-fed.ensures c.judge_run.result c.judge_run.ensures
+    step_is page_crc c.args.buffer.now c.args.before (lent_of c.args.carry.now c.args.ends.now c.args.lengths.now c.args.kept.now c.args.frames.now) (let l = c.feed_pages-fed.new in lent_of l.carry l.ends l.lengths l.kept l.frames) c.feed_pages-fed.result c.requires c.feed_pages-fed.ensures c.judge_run.result c.judge_run.ensures

@@ -17,37 +17,6 @@ use Rattle.recording.proofs.Steps.{step_on, step_ends, from_start}
 use Rattle.recording.proofs.Streams.{room-stays}
 use Rattle.recording.proofs.judge_in.Invariants.{R}
 use Rattle.recording.proofs.judge_in.Goals as goal
-use Rattle.recording.proofs.judge_in.Lts as lts
-use Rattle.recording.proofs.judge_in.Tie as tie
-
-abbrev After-feed_run : Type 0
-After-feed_run = lts.After-feed_run tie.the-claims tie.handed_pre tie.handed_post goal.the-invariant-loop-next goal.the-decreases-loop-next
-
-abbrev At-loop-next : Type 0
-At-loop-next = lts.At-loop tie.the-claims tie.handed_pre tie.handed_post goal.the-invariant-loop-next goal.the-decreases-loop-next
-
--- where a step has ended
-module _ (c : After-feed_run) where
-  abbrev at_loop : At-loop-next
-  at_loop = c.before.before.before.before.before.before
-
-  abbrev begun : goal.After-start
-  begun = at_loop.before
-
-  abbrev b : Bytes
-  b = begun.args.buffer.now
-
-  abbrev new : Bytes
-  new = c.feed_run.new.1.1.0
-
-  went : {d : Accepted} → c.feed_run.result ≡ Goes d → (judge_after R b d new ≡ judge_after R b at_loop.loop-next.accepted at_loop.loop-next.carry) × (at_loop.loop-next.accepted.bytes < d.bytes) × Within b d
-  went e = step_on R b at_loop.loop-next.accepted at_loop.loop-next.carry new c.feed_run.ensures e
-
-  ended : {j : Judged} → c.feed_run.result ≡ Ends j → told_judged j ≡ judge_buffer R b
-  ended e =
-      step_ends R b at_loop.loop-next.accepted at_loop.loop-next.carry new c.feed_run.ensures e
-      ∙ at_loop.loop-next.inv.0
-      ∙ from_start R b _ begun.start.result begun.start.ensures
 
 pub loop-next-init : goal.loop-next-init
 loop-next-init c = (refl, record { bytes = omega arith; pages = omega arith; packets = omega arith }, refl, refl, refl, refl, refl)
@@ -57,19 +26,20 @@ feed_run-requires c =
     let l = c.loop-next in
     record {
       within = l.invariant.1;
-      room = room-stays (lent_of c.args.carry.now c.args.ends.now c.args.lengths.now c.args.kept.now c.args.frames.now) (lent_of l.carry l.ends l.lengths l.auto l.frames) c.requires l.invariant.2 l.invariant.3 l.invariant.4 l.invariant.5 l.invariant.6;
+      room = room-stays (lent_of c.args.carry.now c.args.ends.now c.args.lengths.now c.args.kept.now c.args.frames.now) (lent_of l.carry l.ends l.lengths l.kept l.frames) c.requires l.invariant.2 l.invariant.3 l.invariant.4 l.invariant.5 l.invariant.6;
     }
 
 pub loop-next-smaller : goal.loop-next-smaller
 loop-next-smaller c =
-    let w = went c.before.before.before.before.before.before.before.before.before.before.before.before.before.before c.in-Goes.is in
+    let l = c.loop-next in
+    let w = step_on R c.args.buffer.now l.accepted l.carry c.feed_run.new.carry c.feed_run.ensures c.in-Goes.is in
     omega (arith, w.1, w.2.bytes)
 
 pub loop-next-preserved : goal.loop-next-preserved
 loop-next-preserved c =
-    let call = c.before.before.before.before.before.before.before.before.before.before.before.before.before in
-    let inv = call.loop-next.invariant in
-    let w = went call c.in-Goes.is in (
+    let l = c.loop-next in
+    let inv = l.invariant in
+    let w = step_on R c.args.buffer.now l.accepted l.carry c.feed_run.new.carry c.feed_run.ensures c.in-Goes.is in (
       w.0 ∙ inv.0,
       w.2,
       c.carry-1.given ∙ inv.2,
@@ -95,4 +65,9 @@ pub shape_of-frames-in-Ends : goal.shape_of-frames-in-Ends
 shape_of-frames-in-Ends c = c.frames-1.given ∙ c.loop-next.invariant.6
 
 pub returns-in-Ends : goal.returns-in-Ends
-returns-in-Ends c = ended c.before.before.before.before.before.before.before.before.before.before.before.before.before.before c.in-Ends.is
+returns-in-Ends c =
+    let l = c.loop-next in
+    let b : Bytes = c.args.buffer.now in
+    step_ends R b l.accepted l.carry c.feed_run.new.carry c.feed_run.ensures c.in-Ends.is
+    ∙ l.invariant.0
+    ∙ from_start R b _ c.start.result c.start.ensures

@@ -3,14 +3,6 @@ use Rattle.std.proofs.Common.{◌≡◌, ◌^◌, ◌<◌, ltb, length, sym, ap,
 use Rattle.salvage.proofs.Steps.{lines-over}
 use Rattle.salvage.proofs.Putting.{walked-bytes, walked_lines, surely_fits, bytes-short, lines_decide}
 use Rattle.salvage.proofs.is_short.Goals as goal
-use Rattle.salvage.proofs.is_short.Lts as lts
-use Rattle.salvage.proofs.is_short.Tie as tie
-
-abbrev Start : Type 0
-Start = lts.Start tie.the-claims tie.handed_pre tie.handed_post
-
-fits : (c : Start) → length c.args.buffer.now < 2 ^ 64
-fits c = omega arith
 
 pub returns-then-room-n : goal.returns-then-room-n
 returns-then-room-n c =
@@ -24,8 +16,7 @@ returns-then-out-walk c =
 
 pub lines_in-requires : goal.lines_in-requires
 lines_in-requires c =
-    let start = c.before.before.before.before.before.before.before in
-    lines-over start.args.buffer.now start.args.list.now (fits start) start.requires c.walk_all-walk.ensures.walks
+    lines-over c.args.buffer.now c.args.list.now (omega arith) c.requires c.walk_all-walk.ensures.walks
 
 pub returns : goal.returns
 returns c =

@@ -5,17 +5,6 @@ use Rattle.salvage.proofs.Walking.{walk_begins}
 use Rattle.salvage.proofs.Steps.{can_walk, goes, nearer, walk_over}
 use Rattle.salvage.proofs.Filled.{Pages, pages_begin, can_put, pages_on, pages-end}
 use Rattle.salvage.proofs.write_pages.Goals as goal
-use Rattle.salvage.proofs.write_pages.Lts as lts
-use Rattle.salvage.proofs.write_pages.Tie as tie
-
-abbrev Start : Type 0
-Start = lts.Start tie.the-claims tie.handed_pre tie.handed_post goal.the-invariant-loop-next goal.the-decreases-loop-next
-
-fits : (c : Start) → length c.args.buffer.now < 2 ^ 64
-fits c = omega arith
-
-long : (c : Start) → length c.args.list.now < 2 ^ 64
-long c = omega arith
 
 pub loop-next-init : goal.loop-next-init
 loop-next-init c = rw c.begin-walk.ensures (walk_begins _ _, pages_begin _ _ _)
@@ -29,28 +18,25 @@ returns-then-next-list c =
 
 pub put_page-requires : goal.put_page-requires
 put_page-requires c =
-    let start = c.before.before.before.before.before.before in
     rw c.page_at-page.ensures
-    (can_put (fits start) (long start) start.requires.kept c.loop-next.invariant.0 c.listed_at-next.ensures (omega (arith, c.if-next-list.false)) start.args.out.now
-    start.requires.room c.loop-next.out c.loop-next.invariant.1)
+    (can_put (omega arith) (omega arith) c.requires.kept c.loop-next.invariant.0 c.listed_at-next.ensures (omega (arith, c.if-next-list.false)) c.args.out.now
+    c.requires.room c.loop-next.out c.loop-next.invariant.1)
 
 pub walk_on-walk-requires : goal.walk_on-walk-requires
 walk_on-walk-requires c =
-    let start = c.before.before.before.before.before.before in
     rw c.page_at-page.ensures
-    (can_walk (fits start) (long start) start.requires.kept c.loop-next.invariant.0 c.listed_at-next.ensures (omega (arith, c.if-next-list.false)))
+    (can_walk (omega arith) (omega arith) c.requires.kept c.loop-next.invariant.0 c.listed_at-next.ensures (omega (arith, c.if-next-list.false)))
 
 pub loop-next-smaller : goal.loop-next-smaller
 loop-next-smaller c =
-    let start = c.before.before.before.before.before.before in
-    nearer (fits start) (long start) start.requires.kept c.loop-next.invariant.0 c.listed_at-next.ensures (omega (arith, c.if-next-list.false)) c.changes_of.result
+    nearer (omega arith) (omega arith) c.requires.kept c.loop-next.invariant.0 c.listed_at-next.ensures (omega (arith, c.if-next-list.false)) c.changes_of.result
     (rw c.page_at-page.ensures at c.walk_on-walk.ensures)
 
 pub loop-next-preserved : goal.loop-next-preserved
 loop-next-preserved c =
-    let start = c.before.before.before.before.before.before in (
-      goes (fits start) (long start) start.requires.kept c.loop-next.invariant.0 c.listed_at-next.ensures (omega (arith, c.if-next-list.false))
+    (
+      goes (omega arith) (omega arith) c.requires.kept c.loop-next.invariant.0 c.listed_at-next.ensures (omega (arith, c.if-next-list.false))
           (rw c.page_at-page.ensures at c.changes_of.ensures) (rw c.page_at-page.ensures at c.walk_on-walk.ensures),
-      pages_on (fits start) (long start) start.requires.kept c.loop-next.invariant.0 c.listed_at-next.ensures (omega (arith, c.if-next-list.false)) start.args.out.now
-          start.requires.room c.loop-next.out c.loop-next.invariant.1 c.changes_of.result (rw c.page_at-page.ensures at c.put_page.ensures) (rw c.page_at-page.ensures at c.walk_on-walk.ensures),
+      pages_on (omega arith) (omega arith) c.requires.kept c.loop-next.invariant.0 c.listed_at-next.ensures (omega (arith, c.if-next-list.false)) c.args.out.now
+          c.requires.room c.loop-next.out c.loop-next.invariant.1 c.changes_of.result (rw c.page_at-page.ensures at c.put_page.ensures) (rw c.page_at-page.ensures at c.walk_on-walk.ensures),
     )

@@ -4,27 +4,6 @@ use Rattle.stream.specs.Lent.{lent_of}
 use Rattle.salvage_kept.specs.Promises.{Onward}
 use Rattle.salvage_kept.proofs.Running.{Ran, ran_not, nearer, run_over, can_feed, run_on, run_refused}
 use Rattle.salvage_kept.proofs.feed_run.Goals as goal
-use Rattle.salvage_kept.proofs.feed_run.Lts as lts
-use Rattle.salvage_kept.proofs.feed_run.Tie as tie
-
-abbrev After-listed_at-next : Type 0
-After-listed_at-next = lts.After-listed_at tie.the-claims tie.handed_pre tie.handed_post goal.the-invariant-loop-next goal.the-decreases-loop-next
-
-abbrev At-loop-next : Type 0
-At-loop-next = lts.At-loop tie.the-claims tie.handed_pre tie.handed_post goal.the-invariant-loop-next goal.the-decreases-loop-next
-
-abbrev Start : Type 0
-Start = lts.Start tie.the-claims tie.handed_pre tie.handed_post goal.the-invariant-loop-next goal.the-decreases-loop-next
-
--- where a turn begins
-abbrev at_loop : After-listed_at-next → At-loop-next
-at_loop c = c.before.before
-
-abbrev start : At-loop-next → Start
-start c = c.before.before.before.before.before.before.before.before.before.before
-
-fits : (c : Start) → length c.args.list.now < 2 ^ 64
-fits c = omega arith
 
 pub loop-next-init : goal.loop-next-init
 loop-next-init c = ran_not _ _ _ _ _ _
@@ -52,31 +31,23 @@ shape_of-frames-then-index-list c = c.loop-next.invariant.alike.frames
 
 pub returns-then-index-list : goal.returns-then-index-list
 returns-then-index-list c =
-    let listed = c.before.before in
-    let loop = at_loop listed in
-    run_over (start loop).requires loop.loop.inv listed.listed_at-next.ensures c.if-index-list.true
+    run_over c.requires c.loop-next.invariant c.listed_at-next.ensures c.if-index-list.true
 
 pub feed_next-requires : goal.feed_next-requires
 feed_next-requires c =
-    let listed = c.before.before in
-    let loop = at_loop listed in
-    can_feed (start loop).requires loop.loop.inv listed.listed_at-next.ensures (omega (arith, c.if-index-list.false)) (fits (start loop))
+    can_feed c.requires c.loop-next.invariant c.listed_at-next.ensures (omega (arith, c.if-index-list.false)) (omega arith)
 
 pub loop-next-smaller : goal.loop-next-smaller
 loop-next-smaller c =
-    let listed = c.before.before in
-    let loop = at_loop listed in
-    let i = listed.listed_at-next.result.index in
+    let i = c.listed_at-next.result.index in
     let after = c.in-Accepted.after in
-    let past : after.now.at ≡ suc i = subst (Onward i) c.in-Accepted.is c.feed_next.ensures.1 in
-    omega (arith, past, nearer (start loop).args.list.now loop.loop.pass.now.at i listed.listed_at-next.ensures.index (omega (arith, c.if-index-list.false)))
+    let past : after.now.at ≡ suc i = subst (Onward i) c.in-Accepted.is c.feed_next.ensures.onward in
+    omega (arith, past, nearer c.args.list.now c.loop-next.pass.now.at i c.listed_at-next.ensures.index (omega (arith, c.if-index-list.false)))
 
 pub loop-next-preserved : goal.loop-next-preserved
 loop-next-preserved c =
-    let listed = c.before.before in
-    let loop = at_loop listed in
-    run_on (start loop).requires loop.loop.inv listed.listed_at-next.ensures (omega (arith, c.if-index-list.false)) c.feed_next.result _ _ _
-    c.feed_next.ensures.0
+    run_on c.requires c.loop-next.invariant c.listed_at-next.ensures (omega (arith, c.if-index-list.false)) c.feed_next.result _ _ _
+    c.feed_next.ensures.next_fed_is
     (record {
       carry = c.carry-1.given;
       keeps = c.keep-1.given;
@@ -111,7 +82,5 @@ shape_of-frames-in-Refused c = c.frames-1.given ∙ c.loop-next.invariant.alike.
 
 pub returns-in-Refused : goal.returns-in-Refused
 returns-in-Refused c =
-    let listed = c.before.before in
-    let loop = at_loop listed in
-    run_refused (start loop).requires loop.loop.inv listed.listed_at-next.ensures (omega (arith, c.if-index-list.false)) c.feed_next.result
-    c.feed_next.new.1.1.1.0 c.feed_next.new.1.1.1.1.0 c.feed_next.ensures.0 c.in-Refused.is
+    run_refused c.requires c.loop-next.invariant c.listed_at-next.ensures (omega (arith, c.if-index-list.false)) c.feed_next.result
+    c.feed_next.new.carry c.feed_next.new.keep c.feed_next.ensures.next_fed_is c.in-Refused.is

@@ -5,32 +5,13 @@ use Rattle.salvage_rules.specs.Listed.{listed_in}
 use Rattle.salvage_kept.specs.Code.{pass_of}
 use Rattle.salvage_kept.proofs.Settling.{Goes, goes-begins, goes-ready, goes-ends, can_drop, goes_fewer, goes_on}
 use Rattle.salvage_kept.proofs.settle.Goals as goal
-use Rattle.salvage_kept.proofs.settle.Lts as lts
-use Rattle.salvage_kept.proofs.settle.Tie as tie
-
-abbrev After-feed_run-run : Type 0
-After-feed_run-run = lts.After-feed_run tie.the-claims tie.handed_pre tie.handed_post goal.the-invariant-loop-list goal.the-decreases-loop-list
-
-abbrev At-loop-list : Type 0
-At-loop-list = lts.At-loop tie.the-claims tie.handed_pre tie.handed_post goal.the-invariant-loop-list goal.the-decreases-loop-list
-
-abbrev Start : Type 0
-Start = lts.Start tie.the-claims tie.handed_pre tie.handed_post goal.the-invariant-loop-list goal.the-decreases-loop-list
-
--- where a turn begins, and where the function does
-abbrev at_loop : After-feed_run-run → At-loop-list
-at_loop c = c.before.before.before.before.before.before.before.before.before
-
-abbrev start : At-loop-list → Start
-start c = c.before.before.before.before.before.before.before.before.before.before.before.before
 
 pub loop-list-init : goal.loop-list-init
 loop-list-init c = goes-begins c.requires (ap₂ pass_of c.begin.ensures c.begin-2.ensures)
 
 pub feed_run-run-requires : goal.feed_run-run-requires
 feed_run-run-requires c =
-    let loop = c.before.before.before.before.before.before.before.before.before in
-    goes-ready (start loop).requires loop.loop-list.invariant
+    goes-ready c.requires c.loop-list.invariant
 
 pub shape_of-list-then-index-list : goal.shape_of-list-then-index-list
 shape_of-list-then-index-list c = c.loop-list.invariant.long
@@ -58,28 +39,20 @@ shape_of-frames-then-index-list c = c.frames-1.given ∙ c.loop-list.invariant.a
 
 pub returns-then-index-list : goal.returns-then-index-list
 returns-then-index-list c =
-    let call = c.before.before.before.before.before.before.before.before.before.before.before.before.before.before.before.before.before in
-    let loop = at_loop call in
-    goes-ends (start loop).requires loop.loop.inv call.feed_run-run.ensures c.if-index-list.true c.in_headers.ensures
+    goes-ends c.requires c.loop-list.invariant c.feed_run-run.ensures c.if-index-list.true c.in_headers.ensures
 
 pub without-pass-requires : goal.without-pass-requires
 without-pass-requires c =
-    let call = c.before.before.before.before.before.before.before.before.before.before.before.before.before.before.before.before.before.before.before in
-    let loop = at_loop call in
-    can_drop (start loop).requires loop.loop.inv call.feed_run-run.ensures (omega (arith, c.if-index-list.false))
+    can_drop c.requires c.loop-list.invariant c.feed_run-run.ensures (omega (arith, c.if-index-list.false))
     c.keep-1.given c.carry-1.given
 
 pub loop-list-smaller : goal.loop-list-smaller
 loop-list-smaller c =
-    let call = c.before.before.before.before.before.before.before.before.before.before.before.before.before.before.before.before.before.before.before.before.before.before.before.before in
-    let loop = at_loop call in
-    goes_fewer (start loop).requires loop.loop.inv call.feed_run-run.ensures (omega (arith, c.if-index-list.false)) c.without-pass.ensures
+    goes_fewer c.requires c.loop-list.invariant c.feed_run-run.ensures (omega (arith, c.if-index-list.false)) c.without-pass.ensures
 
 pub loop-list-preserved : goal.loop-list-preserved
 loop-list-preserved c =
-    let call = c.before.before.before.before.before.before.before.before.before.before.before.before.before.before.before.before.before.before.before.before.before.before.before.before in
-    let loop = at_loop call in
-    goes_on (start loop).requires loop.loop.inv call.feed_run-run.ensures (omega (arith, c.if-index-list.false)) c.without-pass.ensures _ _ refl
+    goes_on c.requires c.loop-list.invariant c.feed_run-run.ensures (omega (arith, c.if-index-list.false)) c.without-pass.ensures _ _ refl
     (record {
       carry = c.carry-in-loop-list-1.given ∙ c.carry-1.given;
       keeps = c.keep-1.given;

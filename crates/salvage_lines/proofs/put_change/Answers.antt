@@ -1,5 +1,4 @@
 -- `salvage_lines::put_change` meets its contract: the word is the one of its number. Assumes nothing.
-use borrow.Author.Rules.{rules}
 use borrow.Author.Tests.{eq-eqb, ne_eqb}
 use Rattle.salvage_lines.specs.Lines.{change_line}
 use Rattle.salvage_lines.proofs.put_change.Goals as goal

@@ -34,7 +34,7 @@ loop-place-preserved c =
     let a = c.args in
     let crc = page_sliced (entry_in a.tables.now) in
     let seen = c.seen_at-seen.ensures in
-    let kept : Kept (eqb c.seen_at-seen.result.header.serial a.serial) l.count l.place c.keep-count.result l.work c.keep-count.new.0 =
+    let kept : Kept (eqb c.seen_at-seen.result.header.serial a.serial) l.count l.place c.keep-count.result l.work c.keep-count.new.work =
     c.keep-count.ensures in
     rw (c.next_page_with-place-in-loop-place.ensures, seen)
     (turns crc a.buffer.now a.serial a.work.now l.place l.count l.work l.invariant (omega arith) (rw seen at kept))

@@ -16,11 +16,6 @@ use Rattle.salvage_list.proofs.Next.{further}
 use Rattle.salvage_list.proofs.Cut.{not-onward, no_next, breaks, ends, goes_on}
 use Rattle.salvage_list.proofs.is_cut_after.Goals as goal
 
--- what joins the next page to its neighbours
-joined : (c : goal.After-link_of-next)
-    → c.link_of-next.result ≡ link_at c.args.buffer.now c.args.list.now c.next_listed-index.result
-joined c = c.link_of-next.ensures ∙ ap (λ (s : Bytes). link_of (page_of s)) c.page_at.ensures
-
 pub loop-last-init : goal.loop-last-init
 loop-last-init c = refl
 
@@ -33,17 +28,19 @@ returns-then-index-list c =
 
 pub returns-then-not-follows : goal.returns-then-not-follows
 returns-then-not-follows c =
-    let linked = c.before.before.before in
-    let l = linked.loop-last in
-    let a = linked.args in
-    sym (breaks a.buffer.now a.list.now l.last l.at linked.next_listed-index.result linked.next_listed-index.ensures linked.link_of-next.result (joined linked) linked.if-index-list.false linked.loop-last-test.true (failed c.follows.ensures c.if-not-follows.true)) ∙ l.invariant
+    let l = c.loop-last in
+    let a = c.args in
+    let joined : c.link_of-next.result ≡ link_at a.buffer.now a.list.now c.next_listed-index.result =
+        c.link_of-next.ensures ∙ ap (λ (s : Bytes). link_of (page_of s)) c.page_at.ensures in
+    sym (breaks a.buffer.now a.list.now l.last l.at c.next_listed-index.result c.next_listed-index.ensures c.link_of-next.result joined c.if-index-list.false c.loop-last-test.true (failed c.follows.ensures c.if-not-follows.true)) ∙ l.invariant
 
 pub returns-then-not-next : goal.returns-then-not-next
 returns-then-not-next c =
-    let linked = c.before.before.before.before.before in
-    let l = linked.loop-last in
-    let a = linked.args in
-    sym (ends a.buffer.now a.list.now l.last l.at linked.next_listed-index.result linked.next_listed-index.ensures linked.link_of-next.result (joined linked) linked.if-index-list.false linked.loop-last-test.true (held c.follows.ensures c.if-not-follows.false) c.if-not-next.true) ∙ l.invariant
+    let l = c.loop-last in
+    let a = c.args in
+    let joined : c.link_of-next.result ≡ link_at a.buffer.now a.list.now c.next_listed-index.result =
+        c.link_of-next.ensures ∙ ap (λ (s : Bytes). link_of (page_of s)) c.page_at.ensures in
+    sym (ends a.buffer.now a.list.now l.last l.at c.next_listed-index.result c.next_listed-index.ensures c.link_of-next.result joined c.if-index-list.false c.loop-last-test.true (held c.follows.ensures c.if-not-follows.false) c.if-not-next.true) ∙ l.invariant
 
 pub loop-last-smaller : goal.loop-last-smaller
 loop-last-smaller c =
@@ -53,10 +50,11 @@ loop-last-smaller c =
 
 pub loop-last-preserved : goal.loop-last-preserved
 loop-last-preserved c =
-    let linked = c.before.before.before.before.before in
-    let l = linked.loop-last in
-    let a = linked.args in
-    sym (goes_on a.buffer.now a.list.now l.last l.at linked.next_listed-index.result linked.next_listed-index.ensures linked.link_of-next.result (joined linked) linked.if-index-list.false linked.loop-last-test.true (held c.follows.ensures c.if-not-follows.false) c.if-not-next.false) ∙ l.invariant
+    let l = c.loop-last in
+    let a = c.args in
+    let joined : c.link_of-next.result ≡ link_at a.buffer.now a.list.now c.next_listed-index.result =
+        c.link_of-next.ensures ∙ ap (λ (s : Bytes). link_of (page_of s)) c.page_at.ensures in
+    sym (goes_on a.buffer.now a.list.now l.last l.at c.next_listed-index.result c.next_listed-index.ensures c.link_of-next.result joined c.if-index-list.false c.loop-last-test.true (held c.follows.ensures c.if-not-follows.false) c.if-not-next.false) ∙ l.invariant
 
 pub returns : goal.returns
 returns c =

@@ -41,7 +41,7 @@ returns-in-Cut c =
     sym (starts-cut _ c.args.s.now (sym c.end_at.ensures ∙ ap found_end c.in-Cut.is))
 
 pub returns-in-Page : goal.returns-in-Page
-returns-in-Page c = read c.before.before.before (ap told_read c.in-Page.is)
+returns-in-Page c = read c.before.before (ap told_read c.in-Page.is)
 
 pub returns-in-Refused : goal.returns-in-Refused
-returns-in-Refused c = read c.before.before.before (ap told_read c.in-Refused.is)
+returns-in-Refused c = read c.before.before (ap told_read c.in-Refused.is)

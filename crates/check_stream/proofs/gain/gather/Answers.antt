@@ -16,7 +16,6 @@ pub overflow_add-size : goal.overflow_add-size
 overflow_add-size c =
     omega (
       arith,
-      c.well_formed.1.1.0,
       body-fits c.args.stream.now c.args.packet.now c.loop-page.packet c.loop-page.page c.loop-page.at c.loop-page.size c.args.headers
           c.requires c.loop-page.invariant (omega arith) c.page_at-bytes.result.now c.body_of-body.result.now c.page_at-bytes.ensures c.body_of-body.ensures,
     )
@@ -39,7 +38,7 @@ pub loop-page-preserved : goal.loop-page-preserved
 loop-page-preserved c =
     gathers_on c.args.stream.now c.args.packet.now c.loop-page.packet c.loop-page.page c.loop-page.at c.loop-page.size c.args.headers
     c.requires c.loop-page.invariant (omega arith) c.page_at-bytes.result.now c.body_of-body.result.now c.page_at-bytes.ensures c.body_of-body.ensures
-    c.copy_at.new.0 c.copy_at.ensures
+    c.copy_at.new.d c.copy_at.ensures
 
 pub shape_of-packet : goal.shape_of-packet
 shape_of-packet c = c.loop-page.invariant.filling.size

@@ -4,57 +4,14 @@ use Rattle.salvage.specs.Salvaging.{what_in, place_in, size_in}
 use Rattle.salvage.specs.Columns.{line_if}
 use Rattle.salvage.proofs.Columns.{column_five}
 use Rattle.salvage.proofs.lines.put_changes.Goals as goal
-use Rattle.salvage.proofs.lines.put_changes.Lts as lts
-use Rattle.salvage.proofs.lines.put_changes.Tie as tie
-
-abbrev After-put_line : Type 0
-After-put_line = lts.After-put_line5 tie.the-claims tie.handed_pre tie.handed_post
-
-abbrev After-put_line-at-4 : Type 0
-After-put_line-at-4 = lts.After-put_line4 tie.the-claims tie.handed_pre tie.handed_post
-
-abbrev After-put_line-at-3 : Type 0
-After-put_line-at-3 = lts.After-put_line3 tie.the-claims tie.handed_pre tie.handed_post
-
-abbrev After-put_line-at-2 : Type 0
-After-put_line-at-2 = lts.After-put_line2 tie.the-claims tie.handed_pre tie.handed_post
-
-abbrev After-put_line-at : Type 0
-After-put_line-at = lts.After-put_line tie.the-claims tie.handed_pre tie.handed_post
-
-abbrev Start : Type 0
-Start = lts.Start tie.the-claims tie.handed_pre tie.handed_post
-
--- the calls, from the last one back
-abbrev fourth : After-put_line → After-put_line-at-4
-fourth c = c.before.before.before.before.before.before.before.before.before.before
-
-abbrev third : After-put_line-at-4 → After-put_line-at-3
-third c = c.before.before.before.before.before.before.before.before.before.before
-
-abbrev second : After-put_line-at-3 → After-put_line-at-2
-second c = c.before.before.before.before.before.before.before.before.before.before
-
-abbrev first : After-put_line-at-2 → After-put_line-at
-first c = c.before.before.before.before.before.before.before.before.before.before
-
-abbrev start : After-put_line-at → Start
-start c = c.before.before.before.before.before.before.before
 
 pub put_line-at-requires-4 : goal.put_line-at-requires-4
 put_line-at-requires-4 c =
-    let z = c.before.before.before.before.before.before.before.before.before.before in
-    let y = second z in
-    let x = first y in
-    omega (arith, x.put-line.ensures.most, y.put-line2.ensures.most, z.put_line-at-3.ensures.most, (start x).requires)
+    omega (arith, c.put_line-at.ensures.most, c.put_line-at-2.ensures.most, c.put_line-at-3.ensures.most, c.requires)
 
 pub put_line-requires : goal.put_line-requires
 put_line-requires c =
-    let w = c.before.before.before.before.before.before.before.before.before.before in
-    let z = third w in
-    let y = second z in
-    let x = first y in
-    omega (arith, x.put-line.ensures.most, y.put-line2.ensures.most, z.put-line3.ensures.most, w.put_line-at-4.ensures.most, (start x).requires)
+    omega (arith, c.put_line-at.ensures.most, c.put_line-at-2.ensures.most, c.put_line-at-3.ensures.most, c.put_line-at-4.ensures.most, c.requires)
 
 pub shape_of-what : goal.shape_of-what
 shape_of-what c = c.what-5-1.given ∙ c.what-4-1.given ∙ c.what-3-1.given ∙ c.what-2-1.given ∙ c.what-1.given
@@ -67,22 +24,17 @@ shape_of-sizes c = c.sizes-5-1.given ∙ c.sizes-4-1.given ∙ c.sizes-3-1.given
 
 pub returns : goal.returns
 returns c =
-    let v = c.before.before.before.before.before.before.before in
-    let w = fourth v in
-    let z = third w in
-    let y = second z in
-    let x = first y in
-    let a = (start x).args in
+    let a = c.args in
     let A = line_if a.c.skip 0 a.end a.c.gap in
     let B = line_if a.c.renumbered 1 a.place 4 in
     let C = line_if a.c.cleared 2 a.place 1 in
     let D = line_if a.c.lead 3 a.place a.c.first in
     let E = line_if a.c.trail 3 a.place a.c.last in
-    let p = x.put-line.ensures in
-    let q = y.put-line2.ensures in
-    let r = z.put-line3.ensures in
-    let s = w.put-line4.ensures in
-    let t = v.put_line.ensures in
+    let p = c.put_line-at.ensures in
+    let q = c.put_line-at-2.ensures in
+    let r = c.put_line-at-3.ensures in
+    let s = c.put_line-at-4.ensures in
+    let t = c.put_line.ensures in
     record {
       whats =
           column_five what_in a.what.now a.at A B C D E p.stored.whats p.next q.stored.whats q.next r.stored.whats r.next

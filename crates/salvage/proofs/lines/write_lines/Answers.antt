@@ -6,25 +6,13 @@ use Rattle.salvage.proofs.Walking.{walk_begins}
 use Rattle.salvage.proofs.Steps.{can_walk, lines-here, lines-over, goes, nearer, walk_over}
 use Rattle.salvage.proofs.Filled.{Column, column_begin, column_on, column_end}
 use Rattle.salvage.proofs.lines.write_lines.Goals as goal
-use Rattle.salvage.proofs.lines.write_lines.Lts as lts
-use Rattle.salvage.proofs.lines.write_lines.Tie as tie
-
-abbrev Start : Type 0
-Start = lts.Start tie.the-claims tie.handed_pre tie.handed_post goal.the-invariant-loop-next goal.the-decreases-loop-next
-
-fits : (c : Start) → length c.args.buffer.now < 2 ^ 64
-fits c = omega arith
-
-long : (c : Start) → length c.args.list.now < 2 ^ 64
-long c = omega arith
 
 pub loop-next-init : goal.loop-next-init
 loop-next-init c = rw c.begin-walk.ensures (walk_begins _ _, column_begin what_in _ _ _, column_begin place_in _ _ _, column_begin size_in _ _ _)
 
 pub put_end-requires : goal.put_end-requires
 put_end-requires c =
-    let start = c.before.before.before.before.before.before.before.before in
-    lines-over _ _ (fits start) start.requires c.loop-next.invariant.0
+    lines-over _ _ (omega arith) c.requires c.loop-next.invariant.0
 
 pub shape_of-what-then-next-list : goal.shape_of-what-then-next-list
 shape_of-what-then-next-list c = c.what-1.given ∙ c.loop-next.invariant.1.long
@@ -47,32 +35,28 @@ returns-then-next-list c =
 
 pub put_changes-requires : goal.put_changes-requires
 put_changes-requires c =
-    let start = c.before.before.before.before.before.before.before.before in
-    lines-here (fits start) (long start) start.requires c.loop-next.invariant.0 c.listed_at-next.ensures (omega (arith, c.if-next-list.false))
+    lines-here (omega arith) (omega arith) c.requires c.loop-next.invariant.0 c.listed_at-next.ensures (omega (arith, c.if-next-list.false))
 
 pub walk_on-walk-requires : goal.walk_on-walk-requires
 walk_on-walk-requires c =
-    let start = c.before.before.before.before.before.before.before.before in
     rw c.page_at-page.ensures
-    (can_walk (fits start) (long start) start.requires c.loop-next.invariant.0 c.listed_at-next.ensures (omega (arith, c.if-next-list.false)))
+    (can_walk (omega arith) (omega arith) c.requires c.loop-next.invariant.0 c.listed_at-next.ensures (omega (arith, c.if-next-list.false)))
 
 pub loop-next-smaller : goal.loop-next-smaller
 loop-next-smaller c =
-    let start = c.before.before.before.before.before.before.before.before in
-    nearer (fits start) (long start) start.requires c.loop-next.invariant.0 c.listed_at-next.ensures (omega (arith, c.if-next-list.false)) c.changes_of-c.result
+    nearer (omega arith) (omega arith) c.requires c.loop-next.invariant.0 c.listed_at-next.ensures (omega (arith, c.if-next-list.false)) c.changes_of-c.result
     (rw c.page_at-page.ensures at c.walk_on-walk.ensures)
 
 pub loop-next-preserved : goal.loop-next-preserved
 loop-next-preserved c =
-    let start = c.before.before.before.before.before.before.before.before in
     let inv = c.loop-next.invariant in
     let is = c.listed_at-next.ensures in
-    let inside : c.listed_at-next.result.index < length start.args.list.now = omega (arith, c.if-next-list.false) in
+    let inside : c.listed_at-next.result.index < length c.args.list.now = omega (arith, c.if-next-list.false) in
     let told = rw c.page_at-page.ensures at c.changes_of-c.ensures in
     let walked = rw c.page_at-page.ensures at c.walk_on-walk.ensures in
     let s = c.put_changes.ensures in (
-      goes (fits start) (long start) start.requires inv.0 is inside told walked,
-      column_on (fits start) (long start) start.requires inv.0 is inside what_in inv.1 told s.whats c.what-in-loop-next-1.given walked,
-      column_on (fits start) (long start) start.requires inv.0 is inside place_in inv.2 told s.spots c.places-in-loop-next-1.given walked,
-      column_on (fits start) (long start) start.requires inv.0 is inside size_in inv.3 told s.counts c.sizes-in-loop-next-1.given walked,
+      goes (omega arith) (omega arith) c.requires inv.0 is inside told walked,
+      column_on (omega arith) (omega arith) c.requires inv.0 is inside what_in inv.1 told s.whats c.what-in-loop-next-1.given walked,
+      column_on (omega arith) (omega arith) c.requires inv.0 is inside place_in inv.2 told s.spots c.places-in-loop-next-1.given walked,
+      column_on (omega arith) (omega arith) c.requires inv.0 is inside size_in inv.3 told s.counts c.sizes-in-loop-next-1.given walked,
     )
