@@ -1,7 +1,7 @@
 -- An index as three lists: the granule positions, the places and the sequence numbers of its records (RULES.md, 15).
 -- Assumes nothing.
 use Rattle.std.specs.Prelude.{ℕ, ◌≡◌, Bool, not, ◌&&◌, List, [], ◌∷◌, map, eqb, length, get_or, set}
-use Rattle.std.specs.Borrow.{Bor}
+use Rattle.std.specs.Borrow.{MutBor}
 use denote.Triple.Both.{Both}
 use Rattle.refusal.specs.declared.Refusal.TheVariants.{ShortOutput}
 use Rattle.refusal.specs.Checks.{Check, ◌when◌, first_of}
@@ -40,7 +40,7 @@ record_from gs ps ss i = record { granule = get_or gs i 0; place = get_or ps i 0
 
 -- a slice that a function is lent, at entry and at exit
 abbrev pub Slice : Type 0
-Slice = Both (Bor (List ℕ)) (Bor (List ℕ))
+Slice = Both (MutBor (List ℕ)) (MutBor (List ℕ))
 
 -- the record r was stored at place i
 pub record StoredAt (i : ℕ) (r : IndexRecord) (granules places sequences : Slice) : Type 0 where

@@ -1,6 +1,5 @@
-// An index as a lent slice of records (RULES.md, 15). The borrow checker covers no function that takes such a slice, so each is
-// proved by hand, and each is short: it reads or stores one record, or passes the slice on from call to call. The search itself
-// is in `index_search`, on plain numbers.
+// An index as a lent slice of records (RULES.md, 15). Each function is short: it reads or stores one record, or passes the slice
+// on from call to call. The search itself is in `index_search`, on plain numbers.
 #![tactic(auto)]
 
 ghost use Rattle.std.specs.Prelude.{◌≡◌, get_or, set};

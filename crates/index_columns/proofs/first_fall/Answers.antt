@@ -1,11 +1,7 @@
 -- The first fall from where a turn begins is the first of all. Assumes nothing.
-use mathlib.Core.Path.{◌≡◌, sym, ◌∙◌}
-use Prim.Native.Nat.{◌-◌}
-use borrow.Author.Rules.{rules}
+use mathlib.Core.Path.{sym, ◌∙◌}
 use native.Mathlib.Omega.{arith}
-use lib.ListN.{length}
-use Rattle.index_search.specs.Index.{first_fall}
-use Rattle.index_columns.proofs.Falling.{fall_from, all, here, behind, nowhere}
+use Rattle.index_columns.proofs.Falling.{all, here, behind, nowhere}
 use Rattle.index_columns.proofs.first_fall.Goals as goal
 
 pub loop-i-init : goal.loop-i-init

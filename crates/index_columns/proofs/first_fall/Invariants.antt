@@ -1,11 +1,9 @@
 -- The first fall from where a turn begins is the first of all. Assumes nothing.
-use mathlib.Core.Path.{◌≡◌, sym, ◌∙◌}
+use mathlib.Core.Path.{◌≡◌}
 use Prim.Native.Nat.{◌-◌}
-use borrow.Author.Rules.{rules}
-use native.Mathlib.Omega.{arith}
 use lib.ListN.{length}
 use Rattle.index_search.specs.Index.{first_fall}
-use Rattle.index_columns.proofs.Falling.{fall_from, all, here, behind, nowhere}
+use Rattle.index_columns.proofs.Falling.{fall_from}
 use Rattle.index_columns.proofs.first_fall.Given as goal
 
 abbrev pub invariant-loop-i : goal.invariant-loop-i

@@ -1,5 +1,4 @@
 -- The three fields of a record are read from the three lists. Assumes nothing.
-use borrow.Author.Rules.{rules}
 use Rattle.index_columns.proofs.record_at.Goals as goal
 
 pub returns : goal.returns

@@ -1,7 +1,5 @@
 -- All steps from where a turn begins end where all steps of the search end. Assumes nothing.
-use mathlib.Core.Path.{◌≡◌, refl, sym, ◌∙◌}
-use borrow.Author.Rules.{rules}
-use Rattle.index_search.specs.Search.{left, finish}
+use mathlib.Core.Path.{refl, sym, ◌∙◌}
 use Rattle.index_search.proofs.Steps.{less, finish_go, finish-done}
 use Rattle.index_columns.proofs.run.Goals as goal
 

@@ -1,8 +1,6 @@
 -- All steps from where a turn begins end where all steps of the search end. Assumes nothing.
-use mathlib.Core.Path.{◌≡◌, refl, sym, ◌∙◌}
-use borrow.Author.Rules.{rules}
+use mathlib.Core.Path.{◌≡◌}
 use Rattle.index_search.specs.Search.{left, finish}
-use Rattle.index_search.proofs.Steps.{less, finish_go, finish-done}
 use Rattle.index_columns.proofs.run.Given as goal
 
 abbrev pub invariant-loop-t : goal.invariant-loop-t

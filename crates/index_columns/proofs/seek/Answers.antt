@@ -1,5 +1,4 @@
 -- 22 by the lengths, and then seeking by the granule positions. Assumes nothing.
-use borrow.Author.Rules.{rules}
 use Rattle.octets.proofs.Tests.{failed, held}
 use Rattle.index_columns.proofs.Seeking.{unequal, finds}
 use Rattle.index_columns.proofs.seek.Goals as goal

@@ -1,6 +1,5 @@
 -- The first fall and the search by halving give what seeking answers. Assumes nothing.
 use native.Mathlib.Omega.{arith}
-use borrow.Author.Rules.{rules}
 use Rattle.index_search.proofs.Seeking.{seeks}
 use Rattle.index_columns.proofs.seek_in.Goals as goal
 

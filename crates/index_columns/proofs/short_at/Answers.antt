@@ -1,6 +1,5 @@
 -- A number of a list, or 0 past its end. Assumes nothing.
 use mathlib.Core.Path.{sym}
-use borrow.Author.Rules.{rules}
 use lib.ListN.{get_or-eq_default}
 use Rattle.index_columns.proofs.short_at.Goals as goal
 

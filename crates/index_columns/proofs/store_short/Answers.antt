@@ -1,6 +1,5 @@
 -- A number stored in a list, or nothing past its end. Assumes nothing.
 use mathlib.Core.Path.{sym}
-use borrow.Author.Rules.{rules}
 use lib.Seq.{set_out}
 use Rattle.index_columns.proofs.store_short.Goals as goal
 
