@@ -8,4 +8,4 @@ returns c =
     let a = c.args in
     wrote_back a.page.now c.header_of-h.result _ _ a.back c.wrapping_sub_u32.result a.out.now _ _
     c.header_of-h.ensures c.lacing_of-lacing.ensures c.body_of-body.ensures (omega arith) c.ranges.back.fits (omega arith)
-    c.wrapping_sub_u32.ensures c.write_any_page.ensures
+    c.wrapping_sub_u32.ensures.value c.write_any_page.ensures

@@ -6,25 +6,6 @@ use borrow.Author.Rules.{rules}
 use Rattle.index_walk.proofs.Walking.{nearer}
 use Rattle.index_columns_builder.proofs.Filling.{Filled, ends, counted, filled_begins, filled_goes_on}
 use Rattle.index_columns_builder.proofs.fill.Goals as goal
-use Rattle.index_columns_builder.proofs.fill.Lts as lts
-use Rattle.index_columns_builder.proofs.fill.Tie as tie
-
-abbrev Start : Type 0
-Start = lts.Start tie.the-claims tie.handed_pre tie.handed_post goal.the-invariant-loop-w goal.the-decreases-loop-w
-
--- the lengths of what is lent
-module _ (c : Start) where
-  stream-fits : length c.args.stream.now < 2 ^ 64
-  stream-fits = omega arith
-
-  granules-fit : length c.args.granules.now < 2 ^ 64
-  granules-fit = omega arith
-
-  places-fit : length c.args.places.now < 2 ^ 64
-  places-fit = omega arith
-
-  sequences-fit : length c.args.sequences.now < 2 ^ 64
-  sequences-fit = omega arith
 
 pub loop-w-init : goal.loop-w-init
 loop-w-init c = filled_begins _ _ _ _ c.begin-w.ensures
@@ -36,11 +17,10 @@ loop-w-smaller c =
 
 pub loop-w-preserved : goal.loop-w-preserved
 loop-w-preserved c =
-    let start = c.before.before.before.before.before.before.before in
-    let args = start.args in
-    filled_goes_on args.stream.now args.granules.now args.places.now args.sequences.now c.loop-w.w
-    c.loop-w.granules c.loop-w.places c.loop-w.sequences c.next-w.ensures (omega arith) (stream-fits start.before.before.before.before.before.before.before.before.before.before.before.before.before.before)
-    (granules-fit start) (places-fit start) (sequences-fit start) c.store_at.ensures.granule
+    let a = c.args in
+    filled_goes_on a.stream.now a.granules.now a.places.now a.sequences.now c.loop-w.w
+    c.loop-w.granules c.loop-w.places c.loop-w.sequences c.next-w.ensures (omega arith) (omega arith)
+    (omega arith) (omega arith) (omega arith) c.store_at.ensures.granule
     c.store_at.ensures.place c.store_at.ensures.sequence c.loop-w.invariant
 
 pub shape_of-granules : goal.shape_of-granules

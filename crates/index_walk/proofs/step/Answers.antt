@@ -18,7 +18,7 @@ module _ (w : Walk) (end : ℕ) (done : Bool) (made : IndexRecord) (due : Due) (
 pub returns-then-is_recorded : goal.returns-then-is_recorded
 returns-then-is_recorded c =
     let a = c.args in
-    recorded a.w a.end a.done a.made c.due_after.result c.due_after.ensures c.wrapping_add_usize.result c.wrapping_add_usize.ensures
+    recorded a.w a.end a.done a.made c.due_after.result c.due_after.ensures c.wrapping_add_usize.result c.wrapping_add_usize.ensures.value
     (sym c.is_recorded.ensures ∙ c.if-is_recorded.true)
 
 pub returns : goal.returns

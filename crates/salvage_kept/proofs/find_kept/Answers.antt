@@ -28,7 +28,7 @@ returns c =
     let n = c.collect-n.result in
     let work = c.collect-n.new.work in
     let list = c.settle_list.new.list in
-    let same : length (list ++ drop n work) ≡ length a.work.now = same_length_2 c in
+    let same = c.work-2-1.given in
     let long : length work ≡ length a.work.now = c.work-1.given in
     found-kept a.buffer.now a.work.now _ c.collect-n.result (omega arith) c.if-work-buffer.false c.collect-n.ensures _ _ c.settle_list.ensures _ c.if-settle_list.false
-    (omega (arith, same, long, few c.args.buffer.now c.args.work.now _ c.collect-n.result (omega arith) c.if-work-buffer.false c.collect-n.ensures, length-append list (drop n work), length-drop n work))
+    (omega (arith, same, long, few c.args.buffer.now c.args.work.now _ c.collect-n.result (omega arith) c.if-work-buffer.false c.collect-n.ensures, length-append list (drop n work), length-drop n work, length-take n work))

@@ -9,19 +9,19 @@ use Rattle.salvage_list.proofs.is_known.Goals as goal
 pub returns-then-not-prior : goal.returns-then-not-prior
 returns-then-not-prior c =
     let a = c.args in
-    sym (first-page a.prior a.link c.if-not-prior.true)
+    sym (first-page a.prior a.link (not-true _ c.if-not-prior.true))
 
 pub returns-then-not-before : goal.returns-then-not-before
 returns-then-not-before c =
     let a = c.args in
-    sym (none-onward a.prior a.link c.if-not-prior.false c.if-not-before.true)
+    sym (none-onward a.prior a.link (not-false _ c.if-not-prior.false) (not-true _ c.if-not-before.true))
 
 pub returns-then-not-follows : goal.returns-then-not-follows
 returns-then-not-follows c =
     let a = c.args in
-    sym (broken a.prior a.link c.if-not-prior.false c.if-not-before.false (failed c.follows.ensures c.if-not-follows.true))
+    sym (broken a.prior a.link (not-false _ c.if-not-prior.false) (not-false _ c.if-not-before.false) (failed c.follows.ensures c.if-not-follows.true))
 
 pub returns : goal.returns
 returns c =
     let a = c.args in
-    sym (joined a.prior a.link c.if-not-prior.false c.if-not-before.false (held c.follows.ensures c.if-not-follows.false))
+    sym (joined a.prior a.link (not-false _ c.if-not-prior.false) (not-false _ c.if-not-before.false) (held c.follows.ensures c.if-not-follows.false))

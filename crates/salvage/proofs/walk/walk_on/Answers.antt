@@ -25,4 +25,4 @@ overflow_add-result-4 c =
 pub returns : goal.returns
 returns c =
     let a = c.args in
-    rw (c.size_of-size.ensures, c.next_prior.ensures, c.wrapping_add_u32.ensures, c.lines_of.ensures, add-one a.next.index)
+    rw (c.size_of-size.ensures, c.next_prior.ensures, c.wrapping_add_u32.ensures.value, c.lines_of.ensures, add-one a.next.index)
