@@ -120,16 +120,16 @@ numbered_of_bytes : (lead : Bool) (n : ℕ) (p : Page) → OfBytes p → OfBytes
 numbered_of_bytes true n p s = record { flags = omega (arith, s.flags); count = s.count; lacing = s.lacing; body = s.body }
 numbered_of_bytes false n p s = record { flags = s.flags; count = s.count; lacing = s.lacing; body = s.body }
 
-out_octets : (x : Before) (n : ℕ) (gs : List Good) → Each PageOfBytes gs → Octets (together (map page_out (tidy_from x n gs)))
+out_octets : (n : ℕ) (x : Before) (gs : List Good) → Each PageOfBytes gs → Octets (together (map page_out (tidy_from x n gs)))
 unfolding Each tidy_from tidy_page together
-out_octets x n [] a = octets-none
-out_octets x n (g ∷ gs) a =
+out_octets n x [] a = octets-none
+out_octets n x (g ∷ gs) a =
     let lead : Bool = leading_cut x g.page gs in
     let trail : Bool = trailing_cut g.page gs in
     let p : Page = numbered lead n (without lead trail g.page) in
     let s : OfBytes p = numbered_of_bytes lead n (without lead trail g.page) (without_of_bytes lead trail g.page a.0) in
     octets-append _ _ (page-octets p.header s.flags p.lacing p.body s.count s.lacing s.body)
-    (out_octets _ (suc n) gs a.1)
+    (out_octets (suc n) _ gs a.1)
 
 -- ---- all together
 
@@ -138,5 +138,5 @@ unfolding pages_out
 saved-stays b out ls o e =
     let x = out_of page_crc b out ls e in
     let kept : Each PageOfBytes x.kept = rw x.is (each-kept PageOfBytes page_crc b (good_of_bytes page_crc 0 0 b o)) in
-    let bytes : Octets out = rw x.bytes at (out_octets no_page 0 x.kept kept) in
+    let bytes : Octets out = rw x.bytes at (out_octets 0 no_page x.kept kept) in
     accepted_unchanged out _ _ bytes (saved-whole page_crc b out ls e)

@@ -140,17 +140,17 @@ differs lead trail n g o c x = record {
 
 -- ---- all of them
 
-all-differ : (x : Before) (n : ℕ) (gs : List Good) → Each Old gs → Each Differs (tidy_from x n gs)
+all-differ : (n : ℕ) (x : Before) (gs : List Good) → Each Old gs → Each Differs (tidy_from x n gs)
 unfolding tidy_from Each
-all-differ x n [] a = tt
-all-differ x n (g ∷ gs) a =
+all-differ n x [] a = tt
+all-differ n x (g ∷ gs) a =
     let p : Page = g.page in
     let c = lead-continued p gs x in (
       differs (leading_cut x p gs) (trailing_cut p gs) n g a.0 c (
           pieces (leading_cut x p gs) (trailing_cut p gs) p a.0.fits (trail_open p gs) (trail_through p gs) (λ l t. both_end p gs t (c l))
           ),
-      all-differ _ (suc n) gs a.1,
+      all-differ (suc n) _ gs a.1,
     )
 
 pub kept_differs : KeptDiffers
-kept_differs crc b o = all-differ no_page 0 (kept_in crc b) (all_old crc b (kept_in crc b) o (kept_read crc b))
+kept_differs crc b o = all-differ 0 no_page (kept_in crc b) (all_old crc b (kept_in crc b) o (kept_read crc b))

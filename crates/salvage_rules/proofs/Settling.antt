@@ -29,15 +29,15 @@ within R s k (b ∷ bs) x e = by (verdict R s b) e (within R (after R s b) (suc 
     by none q later = let h = later q in omega arith
     by (some n) q later = let h : k ≡ x.page = cc in omega arith
 
-as_many : (x : Before) (n : ℕ) (gs : List Good) → length (map page_out (tidy_from x n gs)) ≡ length gs
+as_many : (n : ℕ) (x : Before) (gs : List Good) → length (map page_out (tidy_from x n gs)) ≡ length gs
 unfolding tidy_from
-as_many x n [] = refl
-as_many x n (g ∷ gs) = ap suc (as_many _ (suc n) gs)
+as_many n x [] = refl
+as_many n x (g ∷ gs) = ap suc (as_many (suc n) _ gs)
 
 module _ (R : Readings) (gs : List Good) (x : RefusedPage) (e : refused_in R gs ≡ some x) where
   in_list : x.page < length gs
   unfolding refused_in pages_out
-  in_list = let h = within R fresh 0 (pages_out gs) x e in omega (arith, as_many no_page 0 gs)
+  in_list = let h = within R fresh 0 (pages_out gs) x e in omega (arith, as_many 0 no_page gs)
 
   pub shorter : length (missing x.page gs) + 1 ≡ length gs
   shorter = simp (length-append, length-take, length-drop) (let h = in_list in omega arith)
