@@ -28,8 +28,8 @@ returns-then-wrong_granule c =
     let a = c.args in
     -- 11 as the rules name it
     let judged : c.wrong_granule.result ≡ granule_wrong 0 (is_ends (shape_of a.lacing.now)) a.h.granule =
-        c.wrong_granule.ensures
-        ∙ ap (λ (b : Bool). granule_wrong 0 b a.h.granule) (c.is_ends.ensures ∙ ap is_ends c.requires.shape_is) in
+    c.wrong_granule.ensures
+    ∙ ap (λ (b : Bool). granule_wrong 0 b a.h.granule) (c.is_ends.ensures ∙ ap is_ends c.requires.shape_is) in
     sym (piece-page (view a.core carry) (page_with a.h a.lacing.now body) (sym (c.is_long.ensures carry) ∙ c.if-is_long.false)
     c.requires.inside (ap (wrong_shape a.core.phase) (sym c.requires.shape_is) ∙ sym c.wrong_shape.ensures ∙ c.if-wrong_shape.false)
     ∙ rw (← judged, c.if-wrong_granule.true))
@@ -40,8 +40,8 @@ returns c =
     let a = c.args in
     -- 11 as the rules name it
     let judged : c.wrong_granule.result ≡ granule_wrong 0 (is_ends (shape_of a.lacing.now)) a.h.granule =
-        c.wrong_granule.ensures
-        ∙ ap (λ (b : Bool). granule_wrong 0 b a.h.granule) (c.is_ends.ensures ∙ ap is_ends c.requires.shape_is) in
+    c.wrong_granule.ensures
+    ∙ ap (λ (b : Bool). granule_wrong 0 b a.h.granule) (c.is_ends.ensures ∙ ap is_ends c.requires.shape_is) in
     sym (piece-page (view a.core carry) (page_with a.h a.lacing.now body) (sym (c.is_long.ensures carry) ∙ c.if-is_long.false)
     c.requires.inside (ap (wrong_shape a.core.phase) (sym c.requires.shape_is) ∙ sym c.wrong_shape.ensures ∙ c.if-wrong_shape.false)
     ∙ rw (← judged, c.if-wrong_granule.false))

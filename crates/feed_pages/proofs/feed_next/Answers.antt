@@ -52,8 +52,8 @@ unfolding is_full
 overflow_add-result-in-Accepted c =
     let a = c.args in
     let few = few-packets _ a.buffer.now a.p (lent_of a.carry.now a.ends.now a.lengths.now a.kept.now a.frames.now)
-        (sym c.are_lists_short.ensures ∙ c.if-are_lists_short.false) c.in-At.end (sym c.end_at.ensures ∙ ap found_end c.in-At.is) c.feed_with.ensures
-        (record { below = λ (i : ℕ). (c.shared_slice_known-1.given i).fits }) c.requires (ap told_fed c.in-Accepted.is) in
+    (sym c.are_lists_short.ensures ∙ c.if-are_lists_short.false) c.in-At.end (sym c.end_at.ensures ∙ ap found_end c.in-At.is) c.feed_with.ensures
+    (record { below = λ (i : ℕ). (c.shared_slice_known-1.given i).fits }) c.requires (ap told_fed c.in-Accepted.is) in
     let room = c.requires.ends in
     omega (arith, few, room)
 

@@ -33,10 +33,9 @@ loop-next-smaller c =
     (rw c.page_at-page.ensures at c.walk_on-walk.ensures)
 
 pub loop-next-preserved : goal.loop-next-preserved
-loop-next-preserved c =
-    (
-      goes (omega arith) (omega arith) c.requires.kept c.loop-next.invariant.0 c.listed_at-next.ensures (omega (arith, c.if-next-list.false))
-          (rw c.page_at-page.ensures at c.changes_of.ensures) (rw c.page_at-page.ensures at c.walk_on-walk.ensures),
-      pages_on (omega arith) (omega arith) c.requires.kept c.loop-next.invariant.0 c.listed_at-next.ensures (omega (arith, c.if-next-list.false)) c.args.out.now
-          c.requires.room c.loop-next.out c.loop-next.invariant.1 c.changes_of.result (rw c.page_at-page.ensures at c.put_page.ensures) (rw c.page_at-page.ensures at c.walk_on-walk.ensures),
-    )
+loop-next-preserved c = (
+  goes (omega arith) (omega arith) c.requires.kept c.loop-next.invariant.0 c.listed_at-next.ensures (omega (arith, c.if-next-list.false))
+      (rw c.page_at-page.ensures at c.changes_of.ensures) (rw c.page_at-page.ensures at c.walk_on-walk.ensures),
+  pages_on (omega arith) (omega arith) c.requires.kept c.loop-next.invariant.0 c.listed_at-next.ensures (omega (arith, c.if-next-list.false)) c.args.out.now
+      c.requires.room c.loop-next.out c.loop-next.invariant.1 c.changes_of.result (rw c.page_at-page.ensures at c.put_page.ensures) (rw c.page_at-page.ensures at c.walk_on-walk.ensures),
+)

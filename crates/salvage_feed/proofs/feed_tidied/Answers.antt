@@ -17,8 +17,8 @@ returns-in-Accepted c =
     let b : Bytes = tidied_bytes a.form a.number a.page.now in
     -- what is fed are the parts of the tidied page
     let parts : PartsOf page_crc b c.header_kept-h.result c.lacing_kept-lacing.result.now c.body_kept-body.result.now =
-        parts_of a.page.now a.form a.number (record { below = λ (i : ℕ). (c.shared_slice_known-1.given i).fits }) good _ _ _
-        c.header_kept-h.ensures c.lacing_kept-lacing.ensures c.body_kept-body.ensures in
+    parts_of a.page.now a.form a.number (record { below = λ (i : ℕ). (c.shared_slice_known-1.given i).fits }) good _ _ _
+    c.header_kept-h.ensures c.lacing_kept-lacing.ensures c.body_kept-body.ensures in
     accepts a.core c.no_tally-tally.result m _ b room c.in-Accepted.is
     (c.feed_parts.ensures page_crc b parts)
 
@@ -30,7 +30,7 @@ returns-in-Refused c =
     let b : Bytes = tidied_bytes a.form a.number a.page.now in
     -- what is fed are the parts of the tidied page
     let parts : PartsOf page_crc b c.header_kept-h.result c.lacing_kept-lacing.result.now c.body_kept-body.result.now =
-        parts_of a.page.now a.form a.number (record { below = λ (i : ℕ). (c.shared_slice_known-1.given i).fits }) good _ _ _
-        c.header_kept-h.ensures c.lacing_kept-lacing.ensures c.body_kept-body.ensures in
+    parts_of a.page.now a.form a.number (record { below = λ (i : ℕ). (c.shared_slice_known-1.given i).fits }) good _ _ _
+    c.header_kept-h.ensures c.lacing_kept-lacing.ensures c.body_kept-body.ensures in
     refused a.core c.no_tally-tally.result m _ b room c.in-Refused.is
     (c.feed_parts.ensures page_crc b parts)

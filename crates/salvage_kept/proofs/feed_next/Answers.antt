@@ -63,7 +63,7 @@ returns-in-Refused c =
     record {
       next_fed_is = λ (G : List Good) (ws : List ℕ) x.
           let w = subst (λ (r : TidiedFed). FeedsTidied a.pass.now.core out a.carry.now r left) c.in-Refused.is
-              (told x c.feed_tidied.result left c.page_at-page.ensures c.feed_tidied.ensures) in
+          (told x c.feed_tidied.result left c.page_at-page.ensures c.feed_tidied.ensures) in
           (fed_still x w, fed-refused x w);
       onward = tt;
     }

@@ -31,7 +31,7 @@ returns-then-not-follows c =
     let l = c.loop-last in
     let a = c.args in
     let joined : c.link_of-next.result ≡ link_at a.buffer.now a.list.now c.next_listed-index.result =
-        c.link_of-next.ensures ∙ ap (λ (s : Bytes). link_of (page_of s)) c.page_at.ensures in
+    c.link_of-next.ensures ∙ ap (λ (s : Bytes). link_of (page_of s)) c.page_at.ensures in
     sym (breaks a.buffer.now a.list.now l.last l.at c.next_listed-index.result c.next_listed-index.ensures c.link_of-next.result joined c.if-index-list.false c.loop-last-test.true (failed c.follows.ensures c.if-not-follows.true)) ∙ l.invariant
 
 pub returns-then-not-next : goal.returns-then-not-next
@@ -39,7 +39,7 @@ returns-then-not-next c =
     let l = c.loop-last in
     let a = c.args in
     let joined : c.link_of-next.result ≡ link_at a.buffer.now a.list.now c.next_listed-index.result =
-        c.link_of-next.ensures ∙ ap (λ (s : Bytes). link_of (page_of s)) c.page_at.ensures in
+    c.link_of-next.ensures ∙ ap (λ (s : Bytes). link_of (page_of s)) c.page_at.ensures in
     sym (ends a.buffer.now a.list.now l.last l.at c.next_listed-index.result c.next_listed-index.ensures c.link_of-next.result joined c.if-index-list.false c.loop-last-test.true (held c.follows.ensures c.if-not-follows.false) (not-true _ c.if-not-next.true)) ∙ l.invariant
 
 pub loop-last-smaller : goal.loop-last-smaller
@@ -53,7 +53,7 @@ loop-last-preserved c =
     let l = c.loop-last in
     let a = c.args in
     let joined : c.link_of-next.result ≡ link_at a.buffer.now a.list.now c.next_listed-index.result =
-        c.link_of-next.ensures ∙ ap (λ (s : Bytes). link_of (page_of s)) c.page_at.ensures in
+    c.link_of-next.ensures ∙ ap (λ (s : Bytes). link_of (page_of s)) c.page_at.ensures in
     sym (goes_on a.buffer.now a.list.now l.last l.at c.next_listed-index.result c.next_listed-index.ensures c.link_of-next.result joined c.if-index-list.false c.loop-last-test.true (held c.follows.ensures c.if-not-follows.false) (not-false _ c.if-not-next.false)) ∙ l.invariant
 
 pub returns : goal.returns
