@@ -1,6 +1,5 @@
-// Building the index of a stream in a lent buffer into a lent slice of records (RULES.md, 15). The borrow checker covers no
-// function that takes such a slice, so `fill` and `build` are proved by hand, and both are short: they pass the slice on from
-// call to call.
+// Building the index of a stream in a lent buffer into a lent slice of records (RULES.md, 15). `fill` and `build` are short: they
+// pass the slice on from call to call.
 #![tactic(auto)]
 
 ghost use Rattle.std.specs.Prelude.{◌≡◌, length};

@@ -31,6 +31,7 @@ pub fn start() -> Clock
 }
 
 // A length in samples that a packet can have.
+#[tactic(auto, unfolding(crate::specs::Clock::right_length))]
 fn right_length(samples: u64) -> bool
     ensures { result ≡ right_length samples }
 {

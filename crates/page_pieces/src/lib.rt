@@ -25,7 +25,8 @@ pub fn pieces_of(lacing: &[u8]) -> Pieces
     while i < end {
         let v = octets::wide(lacing[i]);
         bytes += v;
-        if v < 255 {
+        let ends = v < 255;
+        if ends {
             lengths[count] = bytes;
             count += 1;
             bytes = 0;

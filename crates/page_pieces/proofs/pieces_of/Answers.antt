@@ -7,7 +7,7 @@ use lib.ListN.{length, get_or, set, take, length-take}
 use lib.Seq.{get_or-take}
 use Rattle.page_pieces.proofs.Turns.{Done, begins, goes_on, ends, done-count, done-lengths, done-unfinished}
 use Rattle.page_pieces.proofs.pieces_of.Goals as goal
-use Rattle.page_pieces.proofs.pieces_of.Goals.{then-v-lt255, else-v-lt255}
+use Rattle.page_pieces.proofs.pieces_of.Goals.{then-ends, else-ends}
 
 pub least-end-requires : goal.least-end-requires
 least-end-requires c = tt
@@ -47,17 +47,17 @@ loop-i-preserved c =
     let size : length (take 255 s) ≡ min 255 (length s) = length-take 255 s in
     let in_l : at.i < length (take 255 s) = omega arith in
     let e : v ≡ get_or (take 255 s) at.i 0 = c.wide-v.ensures.same ∙ sym (get_or-take 255 s at.i 0 (omega arith)) in
-    elim c.if-v-lt255.branch [
-      | then-v-lt255 w ↦
-          let a : c.if-v-lt255.lengths ≡ set at.lengths at.count (at.bytes + v) = cc in
-          let m : c.if-v-lt255.count ≡ at.count + 1 = cc in
-          let z : c.if-v-lt255.bytes ≡ 0 = cc in
-          rw (a, m, z) (ends at.invariant e in_l w.if-v-lt255.true (omega arith))
-      | else-v-lt255 w ↦
-          let a : c.if-v-lt255.lengths ≡ at.lengths = cc in
-          let m : c.if-v-lt255.count ≡ at.count = cc in
-          let z : c.if-v-lt255.bytes ≡ at.bytes + v = cc in
-          rw (a, m, z) (goes_on at.invariant e in_l w.if-v-lt255.false c.wide-v.ensures.most)
+    elim c.if-ends.branch [
+      | then-ends w ↦
+          let a : c.if-ends.lengths ≡ set at.lengths at.count (at.bytes + v) = cc in
+          let m : c.if-ends.count ≡ at.count + 1 = cc in
+          let z : c.if-ends.bytes ≡ 0 = cc in
+          rw (a, m, z) (ends at.invariant e in_l w.if-ends.true (omega arith))
+      | else-ends w ↦
+          let a : c.if-ends.lengths ≡ at.lengths = cc in
+          let m : c.if-ends.count ≡ at.count = cc in
+          let z : c.if-ends.bytes ≡ at.bytes + v = cc in
+          rw (a, m, z) (goes_on at.invariant e in_l w.if-ends.false c.wide-v.ensures.most)
     ]
 
 pub returns : goal.returns
