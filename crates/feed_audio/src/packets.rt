@@ -188,7 +188,8 @@ pub(crate) fn same_on(pending: Pending, streams: u64, lacing: &[u8], body: &[u8]
     requires { Cut lacing.now body.now }
     ensures { AlikeOn result pending streams lacing.now body.now }
 {
-    if streams != 1 {
+    let several = streams != 1;
+    if several {
         return Same::Differ;
     }
     match pending {

@@ -66,5 +66,6 @@ pub fn open_core(head: Head) -> CoreOpened
         streams: head.streams,
         preskip: head.preskip,
     };
-    CoreOpened::At(core, no_tally())
+    let tally = no_tally();
+    CoreOpened::At(core, tally)
 }

@@ -208,7 +208,8 @@ fn varied_frames(s: &[u8], at: usize, count: usize, padding: usize) -> Framed
     if octets::is_short(room, padding, sum) {
         return Framed::Illegal;
     }
-    if room - padding - sum > FRAME_MAX {
+    let long = room - padding - sum > FRAME_MAX;
+    if long {
         return Framed::Illegal;
     }
     Framed::Frames(count, room == padding, s.len())

@@ -155,7 +155,8 @@ fn right_gain(t: &[u8]) -> bool
         return false;
     }
     let d = digits_of(t);
-    if d.len() < 1 {
+    let none = d.len() < 1;
+    if none {
         return false;
     }
     if !all_within(0x30, 0x39, d) {

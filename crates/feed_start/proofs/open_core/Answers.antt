@@ -11,4 +11,4 @@ returns-then-not-right_head c = rw (failed c.right_head.ensures c.if-not-right_h
 
 pub returns : goal.returns
 unfolding open_part_way first_of
-returns c = rw (c.no_tally.ensures, held c.right_head.ensures c.if-not-right_head.false)
+returns c = rw (c.no_tally-tally.ensures, held c.right_head.ensures c.if-not-right_head.false)

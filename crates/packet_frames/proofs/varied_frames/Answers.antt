@@ -48,20 +48,20 @@ returns-then-is_short c =
     let short : length a.s.now - got.next < a.padding + got.sum = is_below c.is_short.ensures c.if-is_short.true in
     record { told = last-short (others w) (omega arith); within = tt }
 
-pub overflow_sub-room-2 : goal.overflow_sub-room-2
-overflow_sub-room-2 c = omega (arith, room c.before)
+pub overflow_sub-long : goal.overflow_sub-long
+overflow_sub-long c = omega (arith, room c.before)
 
-pub overflow_sub-room-3 : goal.overflow_sub-room-3
-overflow_sub-room-3 c = omega (arith, room c.before)
+pub overflow_sub-long-2 : goal.overflow_sub-long-2
+overflow_sub-long-2 c = omega (arith, room c.before)
 
-pub returns-then-room-padding-gt-FRAME_MAX : goal.returns-then-room-padding-gt-FRAME_MAX
-returns-then-room-padding-gt-FRAME_MAX c =
+pub returns-then-long : goal.returns-then-long
+returns-then-long c =
     let w = c.before.before.before.before in
     let fit = room c.before.before in
-    record { told = last-long (others w) (omega arith) (omega (arith, c.if-room-padding-gt-FRAME_MAX.true)); within = tt }
+    record { told = last-long (others w) (omega arith) (omega (arith, c.if-long.true)); within = tt }
 
 pub returns : goal.returns
 returns c =
     let w = c.before.before.before.before in
     let fit = room c.before.before in
-    record { told = last_fits (others w) (omega arith) (omega (arith, c.if-room-padding-gt-FRAME_MAX.false)); within = omega arith }
+    record { told = last_fits (others w) (omega arith) (omega (arith, c.if-long.false)); within = omega arith }

@@ -10,16 +10,16 @@ use Rattle.tags_comment.proofs.right_gain.Goals as goal
 pub returns-then-t-gt6 : goal.returns-then-t-gt6
 returns-then-t-gt6 c = sym (too_long c.args.t.now c.if-t-gt6.true)
 
-pub returns-then-d-lt1 : goal.returns-then-d-lt1
-returns-then-d-lt1 c =
+pub returns-then-none : goal.returns-then-none
+returns-then-none c =
     let d = c.digits_of-d in
-    sym (no_digit c.args.t.now d.result.now c.if-t-gt6.false d.ensures c.if-d-lt1.true)
+    sym (no_digit c.args.t.now d.result.now c.if-t-gt6.false d.ensures c.if-none.true)
 
 pub returns-then-not-all_within : goal.returns-then-not-all_within
 returns-then-not-all_within c =
     let d = c.digits_of-d in
     sym
-    (not-digits c.args.t.now d.result.now c.if-t-gt6.false d.ensures c.if-d-lt1.false
+    (not-digits c.args.t.now d.result.now c.if-t-gt6.false d.ensures c.if-none.false
     (failed c.all_within.ensures c.if-not-all_within.true))
 
 pub decimal-requires : goal.decimal-requires
@@ -37,4 +37,4 @@ returns c =
     let digits : all_digits c.digits_of-d.result.now ≡ true = held c.all_within.ensures c.if-not-all_within.false in
     let d = c.digits_of-d in
     ap₂ leb c.decimal.ensures c.most_of.ensures
-    ∙ sym (size_decides c.args.t.now d.result.now c.if-t-gt6.false d.ensures c.if-d-lt1.false digits)
+    ∙ sym (size_decides c.args.t.now d.result.now c.if-t-gt6.false d.ensures c.if-none.false digits)
