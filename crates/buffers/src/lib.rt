@@ -9,13 +9,9 @@ ghost use Rattle.buffers.specs.Moves.{MovedDown};
 pub fn move_down(buffer: &mut [u8], from: usize, to: usize) -> usize
     ensures { MovedDown buffer.old from to result buffer.new }
 {
-    let end = octets::least(to, buffer.len());
-    let mut n: usize = 0;
-    let mut i = from;
-    while i < end {
-        buffer[n] = buffer[i];
-        n += 1;
-        i += 1;
+    let end = to.min(buffer.len());
+    for i in from..end {
+        buffer[i - from] = buffer[i];
     }
-    n
+    end.saturating_sub(from)
 }

@@ -1,4 +1,5 @@
 -- One page more is fed in the walk: it is accepted, and what is found on it is what the definitions say. Assumes nothing.
+use Rattle.std.specs.Prelude.{Result, Ok, Err}
 use Prim.Native.Nat.{ℕ, suc, ◌+◌, ◌-◌, ◌≤◌, ◌<◌}
 use mathlib.Core.Path.{◌≡◌, refl, sym, ap, ap₂, subst, ◌∙◌}
 use mathlib.Core.Bool.{Bool, false, not, ◌&&◌}
@@ -30,7 +31,6 @@ use Rattle.stream.specs.Statements.{Shows}
 use Rattle.stream.proofs.Lists.{accepted-shows}
 use Rattle.stream.proofs.Step.{gives≢refuses}
 use Rattle.reader.specs.declared.Reader.{Reader}
-use Rattle.reader.specs.declared.Fed.TheVariants.{Accepted, Refused}
 use Rattle.reader.specs.Answers.{known_as, told_fed}
 use Rattle.recording.specs.Pages.{pages_of}
 use Rattle.recording.specs.Judging.{fresh}
@@ -119,10 +119,10 @@ module _ (b : Bytes) (headers : ℕ) (gains : Bool) (w : Walk) (m end : Lent) (p
   inside = rw is next.inside
 
   -- it is not refused
-  pub never_refused : (why : Refusal) → Feeds R (known_as w.reader) p m (told_fed (Refused why)) end → ⊥
+  pub never_refused : (why : Refusal) → Feeds R (known_as w.reader) p m (told_fed (Err why)) end → ⊥
   never_refused why fed = gives≢refuses (sym (fed.told ∙ walks.told))
 
-  module _ (reader : Reader) (counts : Counts) (octets : Octets b) (fed : Feeds R (known_as w.reader) p m (told_fed (Accepted reader counts)) end) where
+  module _ (reader : Reader) (counts : Counts) (octets : Octets b) (fed : Feeds R (known_as w.reader) p m (told_fed (Ok (record { reader = reader; counts = counts }))) end) where
     shows : Shows m end (feed R (known_as w.reader) m p).entries counts
     shows = subst (λ (e : Lent). Shows m e (feed R (known_as w.reader) m p).entries counts) (sym fed.lent) (accepted-shows R (known_as w.reader) m p _ (bytes_of octets) (sym fed.told))
 

@@ -1,12 +1,13 @@
 -- What the code of checking answers and needs: a walk over the pages of an accepted stream, each fed to a reader, and the
 -- findings on each stored one after the other. Assumes nothing.
-use Rattle.std.specs.Prelude.{ℕ, ◌+◌, ◌-◌, ◌*◌, ◌≤◌, ◌<◌, min, ◌≡◌, Bool, false, not, ◌&&◌, List, ◌++◌, map, ltb, eqb, length, get_or, take, drop}
+use Rattle.refusal.specs.Told.{told, Told, gives, refuses, retold}
+use Rattle.refusal.specs.declared.Refusal.{Refusal}
+use Rattle.std.specs.Prelude.{Result, Ok, Err, ℕ, ◌+◌, ◌-◌, ◌*◌, ◌≤◌, ◌<◌, min, ◌≡◌, Bool, false, not, ◌&&◌, List, ◌++◌, map, ltb, eqb, length, get_or, take, drop}
 use Rattle.std.proofs.Math.Option.{none}
 use Rattle.std.proofs.lemmas.List.Edits.{sets}
 use Rattle.octets.specs.Pick.{pick}
 use Rattle.octets.specs.Octets.{Bytes}
 use Rattle.refusal.specs.Numbers.{number_of}
-use Rattle.refusal.specs.Told.{Told, gives, refuses, retold}
 use Rattle.page_crc.specs.Crc.{page_crc}
 use Rattle.tags_replaygain.specs.ReplayGain.{has_replay_gain}
 use Rattle.stream.specs.declared.Counts.{Counts}
@@ -21,14 +22,8 @@ use Rattle.recording.specs.Statements.{After, Begins}
 use Rattle.recording_pages.specs.Places.{header_count, place_of}
 use Rattle.check_rules.specs.Findings.{last_in, comment_packet, Finding, finding_if, findings_from, findings}
 use Rattle.check_rules.specs.Checking.{fitting, listed_by}
-use Rattle.check_stream.specs.declared.Checked.{Checked}
-use Rattle.check_stream.specs.declared.Checked.TheVariants.{Found as Finds, Refused}
 use Rattle.check_stream.specs.declared.walk.Found.{Found}
 use Rattle.check_stream.specs.declared.walk.Walk.{Walk}
-
-abbrev pub told_checked : Checked → Told ℕ
-told_checked (Finds n) = gives n
-told_checked (Refused why) = refuses (number_of why)
 
 abbrev R : Readings
 R = readings page_crc

@@ -1,6 +1,7 @@
 // Checking a stream in a lent buffer for what its writer was advised against (RULES.md, 18).
 #![tactic(auto)]
 
+ghost use Rattle.refusal.specs.Told.{told};
 ghost use Rattle.std.specs.Prelude.{◌+◌, ◌<◌, ◌^◌, ◌≡◌, set, length};
 ghost use Rattle.page_crc.specs.Crc.{page_crc};
 ghost use Rattle.stream.specs.Readings.{readings};
@@ -8,32 +9,14 @@ ghost use Rattle.stream.specs.Lent.{lent_of};
 ghost use Rattle.recording.specs.Pages.{pages_of};
 ghost use Rattle.check_rules.specs.Findings.{finding_if, findings};
 ghost use Rattle.check_rules.specs.Checking.{Checks};
-ghost use Rattle.check_stream.specs.Code.{told_checked, found_list, Put, CanFind, Tagged, Filled, Accepted, ChecksWhole};
+ghost use Rattle.check_stream.specs.Code.{found_list, Put, CanFind, Tagged, Filled, Accepted, ChecksWhole};
 
 use limits::{LIST_MAX, PACKET_MAX};
-use recording::Judged;
 use refusal::Refusal;
 use walk::Found;
 
 mod gain;
 mod walk;
-
-#[derive(Clone, Copy)]
-pub enum Checked {
-    // how many findings there are
-    Found(usize),
-    // 2 to 18 or 24: the stream is not whole; 22: the findings do not fit
-    Refused(Refusal),
-}
-
-// Stores a number at an index of a list, and nothing where the list has no such index.
-fn store_at(list: &mut [u64], i: usize, x: u64)
-    ensures { list.new ≡ set list.old i x }
-{
-    if i < list.len() {
-        list[i] = x;
-    }
-}
 
 // A finding into place `at` of the two lists, where it is there, and the place after it.
 fn put_finding(
@@ -49,8 +32,8 @@ fn put_finding(
         pages.old pages.new }
 {
     if there {
-        store_at(kinds, at, kind);
-        store_at(pages, at, page);
+        lists::store_at(kinds, at, kind);
+        lists::store_at(pages, at, page);
         return at + 1;
     }
     at
@@ -135,30 +118,28 @@ fn count(stream: &[u8], headers: usize, gains: bool) -> usize
 }
 
 // Checks a stream of which no page is refused.
-fn check_whole(stream: &[u8], kinds: &mut [u64], pages: &mut [u64]) -> Checked
+fn check_whole(stream: &[u8], kinds: &mut [u64], pages: &mut [u64]) -> Result<usize, Refusal>
     requires { Accepted stream.now }
-    ensures { ChecksWhole stream.now (told_checked result) kinds.old kinds.new
+    ensures { ChecksWhole stream.now (told result) kinds.old kinds.new
         pages.old pages.new }
 {
     let headers = recording_pages::headers_end(stream).page;
     let gains = gain::has_gain(stream, headers);
     if octets::least(kinds.len(), pages.len()) < count(stream, headers, gains) {
-        return Checked::Refused(Refusal::ShortOutput);
+        return Err(Refusal::ShortOutput);
     }
-    Checked::Found(find(stream, headers, gains, kinds, pages))
+    Ok(find(stream, headers, gains, kinds, pages))
 }
 
 // Checks the stream: its findings go to the first places of the two lists, their kinds and their pages, by page and then by
 // kind, and it tells how many they are (RULES.md, 18). The kinds: 1 the last packet is left unfinished, 2 no page is marked
 // last, 3 more samples are trimmed than the last packet has, 4 a REPLAYGAIN tag, 5 a hole. A stream that is not whole is refused
 // as `recording::judge` refuses it; one whose findings are more than the shorter list has places, with 22. Under a refusal
-// nothing is stored. Example: of the two header pages of a stream alone it is `Checked::Found(1)`: kind 2, page 1.
-pub fn check(stream: &[u8], kinds: &mut [u64], pages: &mut [u64]) -> Checked
-    ensures { Checks (readings page_crc) stream.now (told_checked result)
+// nothing is stored. Example: of the two header pages of a stream alone it is `Ok(1)`: kind 2, page 1.
+pub fn check(stream: &[u8], kinds: &mut [u64], pages: &mut [u64]) -> Result<usize, Refusal>
+    ensures { Checks (readings page_crc) stream.now (told result)
         kinds.old kinds.new pages.old pages.new }
 {
-    match recording::judge(stream) {
-        Judged::Whole(_, _) => check_whole(stream, kinds, pages),
-        Judged::Refused(why, _) => Checked::Refused(why),
-    }
+    recording::judge(stream)?;
+    check_whole(stream, kinds, pages)
 }

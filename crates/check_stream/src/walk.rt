@@ -130,16 +130,17 @@ pub(crate) fn turn(
 {
     let page = recording_pages::page_at(stream, walk.at);
     match reader::feed(walk.reader, page, carry, ends, lengths, kept, frames) {
-        Fed::Accepted(next, counts) => {
+        Ok(fed) => {
+            let counts = fed.counts;
             let number = walk.page + 1;
             let at = walk.at + page.len();
             let pending = is_open(page_layout::lacing_of(page), walk.pending);
             let last = last_of(walk.last, counts.packets, lengths);
             let gain = both(number == headers, gains);
-            let ended = reader::is_ended(next);
+            let ended = reader::is_ended(fed.reader);
             let found = found_on(at == stream.len(), pending, ended, last, gain, counts);
             Walk {
-                reader: next,
+                reader: fed.reader,
                 page: number,
                 at,
                 pending,
@@ -147,6 +148,6 @@ pub(crate) fn turn(
                 found,
             }
         }
-        Fed::Refused(_) => walk,
+        Err(_) => walk,
     }
 }

@@ -1,4 +1,6 @@
 -- The pages of an accepted stream from a place on, written one after the other with their numbers less. Assumes nothing.
+use Rattle.refusal.specs.declared.Refusal.{Refusal}
+use Rattle.std.specs.Prelude.{Result, Ok, Err}
 use Prim.Native.Nat.{ℕ, suc, ◌+◌, ◌-◌, ◌≤◌, ◌<◌}
 use mathlib.Core.Path.{◌≡◌, refl, sym, ap, subst, ◌∙◌}
 use mathlib.Core.Bool.{true}
@@ -16,7 +18,6 @@ use Rattle.page_layout.specs.Page.{lacing_of, body_of}
 use Rattle.page_lacing.proofs.Bodies.{is_body_lem}
 use Rattle.page_size.specs.Size.{is_one_page}
 use Rattle.page_size.proofs.Whole.{lacing-length, body-length}
-use Rattle.page_writer.specs.declared.PageWritten.{PageWritten}
 use Rattle.page_writer.specs.Writing.{page_size, any_checks, write_any_out}
 use Rattle.page_writer.proofs.Writing.{any_writable}
 use Rattle.page_writer.proofs.RoundTrip.{size_same}
@@ -41,7 +42,7 @@ one-page : (p : Bytes) → Good R p → is_one_page p ≡ true
 unfolding readings
 one-page p g = g.page
 
-pub put_back : (p : Bytes) (d : ℕ) (out : Bytes) (at : ℕ) (r : PageWritten) (ys : Bytes) → Sound p → at + length p ≤ length out
+pub put_back : (p : Bytes) (d : ℕ) (out : Bytes) (at : ℕ) (r : Result ℕ Refusal) (ys : Bytes) → Sound p → at + length p ≤ length out
     → WroteBack d p (mid_of at (length out - at) out) r ys → put_mid at (length out - at) out ys ≡ copied out at (renumbered (back d) p)
 unfolding write_any_out renumbered
 put_back p d out at r ys s room w =
@@ -134,7 +135,7 @@ module _ (b : Bytes) (d from : ℕ) (old : Bytes) (to : ℕ) (out : Bytes) (at p
     pub nearer : (0 < length q) × (at + length q ≤ length b)
     nearer = let f : Front b at = front b at more in (omega (arith, ap length is, f.moves), omega (arith, ap length is, f.inside))
 
-    pub turned : (r : PageWritten) (ys : Bytes) → WroteBack d q (mid_of put (length out - put) out) r ys
+    pub turned : (r : Result ℕ Refusal) (ys : Bytes) → WroteBack d q (mid_of put (length out - put) out) r ys
         → Puts b d from old to (put_mid put (length out - put) out ys) (at + length q) (put + length q)
     turned r ys w =
         let s : Sound q = subst Sound (sym is) (sound-here b o ok at p.page p.begins more) in

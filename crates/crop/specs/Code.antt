@@ -1,10 +1,11 @@
 -- What the code of cropping answers and needs. Assumes nothing.
-use Rattle.std.specs.Prelude.{ℕ, ◌+◌, ◌-◌, ◌≤◌, ◌≡◌, map, length, drop}
+use Rattle.refusal.specs.Told.{told, Told, gives, refuses, decided, retold}
+use Rattle.refusal.specs.declared.Refusal.{Refusal}
+use Rattle.std.specs.Prelude.{Result, Ok, Err, ℕ, ◌+◌, ◌-◌, ◌≤◌, ◌≡◌, map, length, drop}
 use Rattle.std.proofs.Math.Option.{none}
 use Rattle.octets.specs.Octets.{Bytes}
 use Rattle.refusal.specs.Checks.{first_of}
 use Rattle.refusal.specs.Numbers.{number_of}
-use Rattle.refusal.specs.Told.{Told, gives, refuses, decided, retold}
 use Rattle.page_crc.specs.Crc.{page_crc}
 use Rattle.stream.specs.Readings.{readings}
 use Rattle.feed_pages.specs.Feedings.{together}
@@ -14,12 +15,6 @@ use Rattle.recording.specs.Statements.{Begins}
 use Rattle.recording_pages.specs.Places.{place_of, header_count}
 use Rattle.crop_rules.specs.Crop.{back, renumbered, crop_of}
 use Rattle.crop_rules.specs.Cropping.{crop_checks, put_by}
-use Rattle.crop.specs.declared.Cropped.{Cropped}
-use Rattle.crop.specs.declared.Cropped.TheVariants.{Bytes as Written, Refused}
-
-abbrev pub told_cropped : Cropped → Told ℕ
-told_cropped (Written n) = gives n
-told_cropped (Refused why) = refuses (number_of why)
 
 -- no page of the stream is refused
 abbrev pub Accepted : Bytes → Type 0

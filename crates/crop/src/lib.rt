@@ -1,6 +1,7 @@
 // Cropping a stream in a lent buffer to a lent output (RULES.md, 17).
 #![tactic(auto)]
 
+ghost use Rattle.refusal.specs.Told.{told};
 ghost use Rattle.std.specs.Prelude.{◌+◌, ◌-◌, ◌≤◌, ◌≡◌, length};
 ghost use Rattle.octets.specs.Octets.{copied};
 ghost use Rattle.page_crc.specs.Crc.{page_crc};
@@ -8,19 +9,9 @@ ghost use Rattle.stream.specs.Readings.{readings};
 ghost use Rattle.recording.specs.Pages.{pages_of};
 ghost use Rattle.crop_rules.specs.Crop.{is_start};
 ghost use Rattle.crop_rules.specs.Cropping.{Crops};
-ghost use Rattle.crop.specs.Code.{told_cropped, moved_pages, Accepted, CanPut, IsPlaced, CropsWhole};
+ghost use Rattle.crop.specs.Code.{moved_pages, Accepted, CanPut, IsPlaced, CropsWhole};
 
-use page_writer::PageWritten;
-use recording::Judged;
 use refusal::Refusal;
-
-#[derive(Clone, Copy)]
-pub enum Cropped {
-    // how many bytes were written
-    Bytes(usize),
-    // 2 to 18 or 24: the stream is not whole; 29; 22
-    Refused(Refusal),
-}
 
 // Whether a crop may begin at this page, which begins at a place; the headers have so many pages.
 fn is_start(stream: &[u8], headers: usize, page: usize, at: usize) -> bool
@@ -46,30 +37,30 @@ fn put_pages(stream: &[u8], from: usize, back: u32, out: &mut [u8], to: usize)
     while at < stream.len() {
         let page = recording_pages::page_at(stream, at);
         let size = page.len();
-        crop_page::write_back(page, back, &mut out[put..]);
+        let _ = crop_page::write_back(page, back, &mut out[put..]);
         at += size;
         put += size;
     }
 }
 
 // The crop of a whole stream.
-fn crop_whole(stream: &[u8], page: usize, out: &mut [u8]) -> Cropped
+fn crop_whole(stream: &[u8], page: usize, out: &mut [u8]) -> Result<usize, Refusal>
     requires { Accepted stream.now }
-    ensures { CropsWhole stream.now page (told_cropped result) out.old out.new }
+    ensures { CropsWhole stream.now page (told result) out.old out.new }
 {
     let headers = recording_pages::headers_end(stream);
     let at = recording_pages::place_of(stream, page);
     if !is_start(stream, headers.page, page, at) {
-        return Cropped::Refused(Refusal::NoCropStart);
+        return Err(Refusal::NoCropStart);
     }
     let size = headers.at + (stream.len() - at);
     if out.len() < size {
-        return Cropped::Refused(Refusal::ShortOutput);
+        return Err(Refusal::ShortOutput);
     }
     let back = (page - headers.page) % 4294967296;
     octets::copy_at(out, 0, &stream[..headers.at]);
     put_pages(stream, at, back as u32, out, headers.at);
-    Cropped::Bytes(size)
+    Ok(size)
 }
 
 // Crops the stream at a page, the first being page 0: both headers as they are, and all pages from that one on, renumbered so
@@ -79,12 +70,10 @@ fn crop_whole(stream: &[u8], page: usize, out: &mut [u8]) -> Cropped
 // written. As many bytes as the stream has are always enough.
 // Example: of two header pages and three audio pages, each of one packet of its own, none marked last, `crop(stream, 3, out)` has
 // four pages, numbered 0 to 3.
-pub fn crop(stream: &[u8], page: usize, out: &mut [u8]) -> Cropped
-    ensures { Crops (readings page_crc) stream.now page (told_cropped result)
+pub fn crop(stream: &[u8], page: usize, out: &mut [u8]) -> Result<usize, Refusal>
+    ensures { Crops (readings page_crc) stream.now page (told result)
         out.old out.new }
 {
-    match recording::judge(stream) {
-        Judged::Whole(_, _) => crop_whole(stream, page, out),
-        Judged::Refused(why, _) => Cropped::Refused(why),
-    }
+    recording::judge(stream)?;
+    crop_whole(stream, page, out)
 }

@@ -1,10 +1,11 @@
 -- The tests of a page's marks and lacing values in turn, and a page's fields with its number less. Assumes nothing.
+use Rattle.refusal.specs.declared.Refusal.{Refusal}
+use Rattle.std.specs.Prelude.{Result, Ok, Err}
 use Rattle.std.proofs.Common.{◌≡◌, ℕ, ◌+◌, ◌-◌, ◌%◌, ◌^◌, ◌<◌, true, false, not, arith}
 use Rattle.octets.specs.Octets.{Bytes}
 use Rattle.page_flags.specs.Flags.{is_continued, is_last_page}
 use Rattle.page_layout.specs.declared.PageHeader.{PageHeader}
 use Rattle.page_layout.specs.Page.{header_of, lacing_of, body_of}
-use Rattle.page_writer.specs.declared.PageWritten.{PageWritten}
 use Rattle.page_writer.specs.Writing.{WroteAny}
 use Rattle.stream.specs.Page.{page_of, continued, last, ends, completes}
 use Rattle.stream.specs.Statements.{shifted}
@@ -30,7 +31,7 @@ moved_back : (q d r : ℕ) → q < 2 ^ 32 → d < 2 ^ 32 → r < 2 ^ 32 → (r +
 moved_back q d r a b c e = omega arith
 
 -- the answer of writing these fields
-pub wrote_back : (p : Bytes) (h : PageHeader) (l body : Bytes) (d r : ℕ) (out : Bytes) (w : PageWritten) (end : Bytes)
+pub wrote_back : (p : Bytes) (h : PageHeader) (l body : Bytes) (d r : ℕ) (out : Bytes) (w : Result ℕ Refusal) (end : Bytes)
     → h ≡ header_of p → l ≡ lacing_of p → body ≡ body_of p → h.sequence < 2 ^ 32 → d < 2 ^ 32 → r < 2 ^ 32
     → (r + d) % 2 ^ 32 ≡ h.sequence
     → WroteAny (record { flags = h.flags; granule = h.granule; serial = h.serial; sequence = r }) l body out w end

@@ -7,7 +7,7 @@ ghost use Rattle.crop_rules.specs.Crop.{may_begin};
 ghost use Rattle.crop_page.specs.Renumbering.{WroteBack};
 
 use page_layout::PageHeader;
-use page_writer::PageWritten;
+use refusal::Refusal;
 
 // Whether a crop may begin at an audio page (RULES.md, 17): it is not marked continued, a packet completes on it, and it is not
 // marked last. It refuses nothing: any bytes are read as a page.
@@ -28,8 +28,8 @@ pub fn may_begin(page: &[u8]) -> bool
 // The page with its sequence number `back` less, modulo 2^32, written to the start of `out` with its checksum made (RULES.md, 3
 // and 17; RFC 3533, 6). 23: the lacing values do not sum to the length of the body. 22: not 23, and `out` is shorter than the
 // page. On refusal nothing is written. Bytes that are one page by 3 are not refused where `out` has as many bytes.
-// Example: a page of 31 bytes with the number 2 gives `PageWritten::Bytes(31)`, and with `back` 3 the number 4,294,967,295.
-pub fn write_back(page: &[u8], back: u32, out: &mut [u8]) -> PageWritten
+// Example: a page of 31 bytes with the number 2 gives `Ok(31)`, and with `back` 3 the number 4,294,967,295.
+pub fn write_back(page: &[u8], back: u32, out: &mut [u8]) -> Result<usize, Refusal>
     ensures { WroteBack back page.now out.old result out.new }
 {
     let h = page_layout::header_of(page);

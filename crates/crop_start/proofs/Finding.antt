@@ -1,6 +1,6 @@
 -- The walk from its first page to its end, and what is told. Assumes nothing.
 use Prim.Native.Nat.{ℕ, suc, ◌+◌, ◌-◌, ◌≤◌}
-use mathlib.Core.Path.{◌≡◌, sym, ap, subst, ◌∙◌}
+use mathlib.Core.Path.{◌≡◌, refl, sym, ap, subst, ◌∙◌}
 use mathlib.Core.Bool.{false}
 use mathlib.Core.List.{[]}
 use mathlib.Core.Option.{none}
@@ -18,10 +18,12 @@ use Rattle.recording.specs.Judging.{whole, refused, first_refused, fresh, judge_
 use Rattle.recording.specs.Statements.{After}
 use Rattle.recording.proofs.Walking.{walk_begins}
 use Rattle.recording_pages.proofs.Places.{at_first, at_end_lem}
-use Rattle.crop_start.specs.declared.Best.{Best}
+use Rattle.std.specs.Prelude.{Option, Some, None, ok_or}
+use Rattle.refusal.specs.declared.Refusal.TheVariants.{NoCropStart}
+use Rattle.crop_start.specs.declared.CropStart.{CropStart}
 use Rattle.crop_start.specs.declared.Walk.{Walk}
 use Rattle.crop_start.specs.Start.{best_start, told_best, start_found}
-use Rattle.crop_start.specs.Code.{best_as, Walked}
+use Rattle.crop_start.specs.Code.{told_start, best_as, Walked}
 use Rattle.crop_start.proofs.Starts.{best-first, best-past}
 
 abbrev R : Readings
@@ -29,7 +31,7 @@ R = readings page_crc
 
 -- before any page
 pub walk_begun : (b : Bytes) (position : ℕ) (r : Reader) (carry : Bytes) → first_refused R fresh 0 (pages_of b) ≡ none → known_as r ≡ start
-    → Walked b position (record { reader = r; page = 0; at = 0; best = record { any = false; page = 0; start = 0 } }) carry
+    → Walked b position (record { reader = r; page = 0; at = 0; best = None }) carry
 walk_begun b position r carry ok e =
     let first = at_first b in
     record {
@@ -52,8 +54,13 @@ best-at_end b position w carry n u h few =
 
 -- ---- what is told
 
+-- the best page, or 29
+pub start_told : (best : Option CropStart) → told_start (ok_or best NoCropStart) ≡ told_best (best_as best)
+start_told (Some s) = refl
+start_told None = refl
+
 module _ (b : Bytes) (last position : ℕ) where
-  pub found-whole : (pages packets : ℕ) (best : Best) → judge_buffer R b ≡ whole pages packets → best_as best ≡ best_start R (pages_of b) position (last + 1)
+  pub found-whole : (pages packets : ℕ) (best : Option CropStart) → judge_buffer R b ≡ whole pages packets → best_as best ≡ best_start R (pages_of b) position (last + 1)
       → told_best (best_as best) ≡ start_found R b last position
   unfolding start_found
   found-whole pages packets best j e =

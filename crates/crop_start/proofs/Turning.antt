@@ -1,4 +1,5 @@
 -- One page more is fed in the walk: it is accepted, and its first packet starts where the lists say. Assumes nothing.
+use Rattle.std.specs.Prelude.{Result, Ok, Err}
 use Prim.Native.Nat.{ℕ, suc, ◌+◌, ◌-◌, ◌≤◌}
 use mathlib.Core.Path.{◌≡◌, refl, sym, ap, ap₂, subst, ◌∙◌}
 use mathlib.Core.Bool.{Bool, true, false}
@@ -23,7 +24,6 @@ use Rattle.stream.specs.Statements.{HasFirst, Shows}
 use Rattle.stream.proofs.Lists.{accepted-shows}
 use Rattle.stream.proofs.Step.{gives≢refuses}
 use Rattle.reader.specs.declared.Reader.{Reader}
-use Rattle.reader.specs.declared.Fed.TheVariants.{Accepted, Refused}
 use Rattle.reader.specs.Answers.{known_as, told_fed}
 use Rattle.recording.specs.Pages.{pages_of}
 use Rattle.recording.specs.Judging.{first_refused, fresh}
@@ -34,7 +34,8 @@ use Rattle.recording.proofs.Streams.{has_room, listed-all}
 use Rattle.recording.proofs.Walking.{walk_goes_on}
 use Rattle.recording_pages.specs.Places.{page_at}
 use Rattle.recording_pages.proofs.Places.{Next, at_next}
-use Rattle.crop_start.specs.declared.Best.{Best}
+use Rattle.std.specs.Prelude.{Option as CodeOption, Some, None}
+use Rattle.crop_start.specs.declared.CropStart.{CropStart}
 use Rattle.crop_start.specs.declared.Walk.{Walk}
 use Rattle.crop_start.specs.Start.{first_start, start_in, start_of, starts_by, best_start}
 use Rattle.crop_start.specs.Code.{best_as, first_in, may_start, CanTurn, Turned}
@@ -63,7 +64,7 @@ first-listed R S k p later es c ok here is = by (drop k (listings R S)) refl
     by [] e = absurd (omega (arith, ap length e, ap length here, length-drop k (listings R S), length-drop k S, listed-all R S ok))
     by (l ∷ ls) e = ap (λ (x : Listing). first_start x.entries) (is l ls e)
 
-best-by : (t : Bool) (a b : Best) → best_as (pick t a b) ≡ pick t (best_as a) (best_as b)
+best-by : (t : Bool) (a b : CodeOption CropStart) → best_as (pick t a b) ≡ pick t (best_as a) (best_as b)
 best-by true a b = refl
 best-by false a b = refl
 
@@ -123,10 +124,10 @@ module _ (b : Bytes) (headers position : ℕ) (w : Walk) (m end : Lent) (p : Byt
   inside = rw is next.inside
 
   -- it is not refused
-  pub never_refused : (why : Refusal) → Feeds R (known_as w.reader) p m (told_fed (Refused why)) end → ⊥
+  pub never_refused : (why : Refusal) → Feeds R (known_as w.reader) p m (told_fed (Err why)) end → ⊥
   never_refused why fed = gives≢refuses (sym (fed.told ∙ walks.told))
 
-  module _ (reader : Reader) (counts : Counts) (octets : Octets b) (fed : Feeds R (known_as w.reader) p m (told_fed (Accepted reader counts)) end) where
+  module _ (reader : Reader) (counts : Counts) (octets : Octets b) (fed : Feeds R (known_as w.reader) p m (told_fed (Ok (record { reader = reader; counts = counts }))) end) where
     shows : Shows m end (feed R (known_as w.reader) m p).entries counts
     shows = subst (λ (e : Lent). Shows m e (feed R (known_as w.reader) m p).entries counts) (sym fed.lent) (accepted-shows R (known_as w.reader) m p _ (bytes_of octets) (sym fed.told))
 
@@ -139,8 +140,8 @@ module _ (b : Bytes) (headers position : ℕ) (w : Walk) (m end : Lent) (p : Byt
         (subst (λ (l : Lent). After R (take (suc w.page) S) (known_as reader) l.carry) (sym fed.lent)
         (subst (λ (t : Taken). After R (take (suc w.page) S) t.reader (feed R (known_as w.reader) m p).lent.carry) (sym (same_taken (fed.told ∙ walks.told))) walks.after))
 
-    pub turned : (start : ℕ) (holds : Bool) (best : Best) → start ≡ first_in counts.packets end.ends end.lengths
-        → holds ≡ may_start p headers w.page start position → best ≡ pick holds (record { any = true; page = w.page; start = start }) w.best
+    pub turned : (start : ℕ) (holds : Bool) (best : CodeOption CropStart) → start ≡ first_in counts.packets end.ends end.lengths
+        → holds ≡ may_start p headers w.page start position → best ≡ pick holds (Some (record { page = w.page; position = start })) w.best
         → Turned b position w (record { reader = reader; page = w.page + 1; at = w.at + length p; best = best }) end.carry
     turned start holds best starts may chosen = record {
       walked = record {
@@ -167,7 +168,7 @@ module _ (b : Bytes) (headers position : ℕ) (w : Walk) (m end : Lent) (p : Byt
         best-is : best_as best ≡ best_start R S position (w.page + 1)
         best-is =
             ap best_as chosen
-            ∙ best-by holds (record { any = true; page = w.page; start = start }) w.best
+            ∙ best-by holds (Some (record { page = w.page; position = start })) w.best
             ∙ rw (here_may, here-starts, ready.walked.best) refl
             ∙ sym (best-next R S position w.page)
             ∙ ap (best_start R S position) one

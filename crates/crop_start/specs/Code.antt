@@ -1,6 +1,7 @@
 -- What the code that finds the start of a crop answers and needs: a walk over the pages of an accepted stream, each fed to a
 -- reader. Assumes nothing.
-use Rattle.std.specs.Prelude.{ℕ, ◌+◌, ◌-◌, ◌≤◌, ◌<◌, ◌≡◌, Bool, false, ◌&&◌, List, leb, eqb, length, get_or, take}
+use Rattle.std.specs.Prelude.{Option as CodeOption, Some, None, Result, Ok, Err, ℕ, ◌+◌, ◌-◌, ◌≤◌, ◌<◌, ◌≡◌, Bool, false, ◌&&◌, List, leb, eqb, length, get_or, take}
+use Rattle.refusal.specs.declared.Refusal.{Refusal}
 use Rattle.std.proofs.Math.Option.{Option, none, some}
 use Rattle.octets.specs.Pick.{pick}
 use Rattle.octets.specs.Octets.{Bytes}
@@ -17,18 +18,17 @@ use Rattle.recording.specs.Statements.{After, Begins}
 use Rattle.recording_pages.specs.Places.{header_count, place_of}
 use Rattle.crop_rules.specs.Crop.{may_begin}
 use Rattle.crop_start.specs.declared.CropStart.{CropStart}
-use Rattle.crop_start.specs.declared.CropStart.TheVariants.{At, Refused}
-use Rattle.crop_start.specs.declared.Best.{Best}
 use Rattle.crop_start.specs.declared.Walk.{Walk}
 use Rattle.crop_start.specs.Start.{Start, best_start}
 
-abbrev pub told_start : CropStart → Told Start
-told_start (At k p) = gives (record { page = k; position = p })
-told_start (Refused why) = refuses (number_of why)
+abbrev pub told_start : Result CropStart Refusal → Told Start
+told_start (Ok s) = gives (record { page = s.page; position = s.position })
+told_start (Err why) = refuses (number_of why)
 
 -- the best page so far, if there is one
-abbrev pub best_as : Best → Option Start
-best_as x = pick x.any (some (record { page = x.page; position = x.start })) none
+abbrev pub best_as : CodeOption CropStart → Option Start
+best_as (Some s) = some (record { page = s.page; position = s.position })
+best_as None = none
 
 -- where the first of n packets starts, by the lists that a feeding leaves
 abbrev pub first_in : ℕ → List ℕ → List ℕ → ℕ

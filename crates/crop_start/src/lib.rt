@@ -14,23 +14,13 @@ ghost use Rattle.crop_start.specs.Code.{told_start, best_as, first_in, may_start
 
 use limits::{LIST_MAX, PACKET_MAX};
 use reader::{Fed, Reader};
-use recording::Judged;
 use refusal::Refusal;
 
+// The page at which a crop may begin, and the position at which its first packet starts.
 #[derive(Clone, Copy)]
-pub enum CropStart {
-    // the page, and the position at which its first packet starts
-    At(usize, u64),
-    // 2 to 18 or 24: the stream is not whole; 29
-    Refused(Refusal),
-}
-
-// The best page so far and where it starts, if there is one.
-#[derive(Clone, Copy)]
-struct Best {
-    any: bool,
-    page: usize,
-    start: u64,
+pub struct CropStart {
+    pub page: usize,
+    pub position: u64,
 }
 
 // A walk over the pages: the reader that was fed those before, the next page and its place, and the best page of those before.
@@ -39,7 +29,7 @@ struct Walk {
     reader: Reader,
     page: usize,
     at: usize,
-    best: Best,
+    best: Option<CropStart>,
 }
 
 // Where the first of so many packets starts, by its end stamp and its length.
@@ -70,17 +60,14 @@ fn may_start(page: &[u8], headers: usize, number: usize, start: u64, position: u
 }
 
 // The best page, with one page more.
-fn better(best: Best, holds: bool, page: usize, start: u64) -> Best
-    ensures { result ≡ pick holds (record { any = true; page = page; start = start }) best }
+fn better(best: Option<CropStart>, holds: bool, page: usize, position: u64) -> Option<CropStart>
+    ensures { result ≡ pick holds (Some (record { page = page; position = position })) best }
 {
     if holds {
-        return Best {
-            any: true,
-            page,
-            start,
-        };
+        Some(CropStart { page, position })
+    } else {
+        best
     }
-    best
 }
 
 // Feeds one page more to the walk.
@@ -101,17 +88,17 @@ fn turn(
 {
     let page = recording_pages::page_at(stream, walk.at);
     match reader::feed(walk.reader, page, carry, ends, lengths, kept, frames) {
-        Fed::Accepted(next, counts) => {
-            let start = first_start(counts.packets, ends, lengths);
+        Ok(fed) => {
+            let start = first_start(fed.counts.packets, ends, lengths);
             let holds = may_start(page, headers, walk.page, start, position);
             Walk {
-                reader: next,
+                reader: fed.reader,
                 page: walk.page + 1,
                 at: walk.at + page.len(),
                 best: better(walk.best, holds, walk.page, start),
             }
         }
-        Fed::Refused(_) => walk,
+        Err(_) => walk,
     }
 }
 
@@ -125,7 +112,7 @@ fn find_in(
     lengths: &mut [u64],
     kept: &mut [u64],
     frames: &mut [u64],
-) -> Best
+) -> Option<CropStart>
     requires { CanFind stream.now (lent_of carry.old ends.old lengths.old kept.old frames.old) }
     ensures { best_as result ≡ best_start (readings page_crc) (pages_of stream.now) position (last + 1) }
 {
@@ -134,11 +121,7 @@ fn find_in(
         reader: reader::start(),
         page: 0,
         at: 0,
-        best: Best {
-            any: false,
-            page: 0,
-            start: 0,
-        },
+        best: None,
     };
     while walk.page <= last {
         if walk.at >= stream.len() {
@@ -160,7 +143,7 @@ fn find_in(
 }
 
 // The best page of a whole stream.
-fn find_whole(stream: &[u8], last: usize, position: u64) -> Best
+fn find_whole(stream: &[u8], last: usize, position: u64) -> Option<CropStart>
     requires { first_refused (readings page_crc) fresh 0 (pages_of stream.now) ≡ none }
     ensures { best_as result ≡ best_start (readings page_crc) (pages_of stream.now) position (last + 1) }
 {
@@ -181,26 +164,15 @@ fn find_whole(stream: &[u8], last: usize, position: u64) -> Best
     )
 }
 
-fn start_of(best: Best) -> CropStart
-    ensures { told_start result ≡ told_best (best_as best) }
-{
-    if best.any {
-        return CropStart::At(best.page, best.start);
-    }
-    CropStart::Refused(Refusal::NoCropStart)
-}
-
 // The last page at which a crop of the stream may begin, of those up to page `last`, whose first packet starts at or before the
 // position; and where that packet starts, its end stamp less its length (RULES.md, 17). The first page is page 0. A stream that
 // is not whole is refused as `recording::judge` refuses it. 29: there is no such page.
 // Example: of two header pages and three audio pages with a packet of 960 samples each, the granule positions being 960, 1,920
-// and 2,880 and none marked last, `find_start(stream, 9, 1000)` is `CropStart::At(3, 960)`, and `find_start(stream, 2, 1000)` is
-// `CropStart::At(2, 0)`.
-pub fn find_start(stream: &[u8], last: usize, position: u64) -> CropStart
+// and 2,880 and none marked last, `find_start(stream, 9, 1000)` gives page 3 and position 960, and `find_start(stream, 2, 1000)`
+// gives page 2 and position 0.
+pub fn find_start(stream: &[u8], last: usize, position: u64) -> Result<CropStart, Refusal>
     ensures { told_start result ≡ start_found (readings page_crc) stream.now last position }
 {
-    match recording::judge(stream) {
-        Judged::Whole(_, _) => start_of(find_whole(stream, last, position)),
-        Judged::Refused(why, _) => CropStart::Refused(why),
-    }
+    recording::judge(stream)?;
+    find_whole(stream, last, position).ok_or(Refusal::NoCropStart)
 }

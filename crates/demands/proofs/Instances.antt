@@ -12,10 +12,8 @@ use Rattle.octets.specs.Octets.{Bytes, total}
 use Rattle.refusal.specs.declared.Refusal.{Refusal}
 use Rattle.refusal.specs.declared.Refusal.TheVariants.{GranuleTooSmall}
 use Rattle.refusal.specs.Checks.{first_of}
-use Rattle.refusal.specs.declared.Refusal.TheVariants.{GranuleTooSmall}
 use Rattle.refusal.specs.Numbers.{number_of}
 use Rattle.refusal.specs.Told.{gives, refuses}
-use Rattle.refusal.specs.Numbers.{number_of}
 use Rattle.page_lacing.specs.Lacing.{ended_from, unfinished_from, cut_from, is_body}
 use Rattle.page_writer.specs.Writing.{write_told}
 use Rattle.packet_toc.specs.Toc.{config_samples, frame_samples}

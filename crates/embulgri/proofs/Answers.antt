@@ -1,4 +1,6 @@
 -- The answers to C, by what the library tells. Assumes nothing.
+use Rattle.std.specs.Prelude.{⊤, Result, Ok, Err}
+use Rattle.std.specs.Prelude.{Result, Ok, Err}
 use mathlib.Core.Path.{◌≡◌, refl, sym, ap, ◌∙◌}
 use mathlib.Core.Bool.{Bool, true, false, not}
 use mathlib.Core.List.{List, [], ◌∷◌}
@@ -11,29 +13,19 @@ use Rattle.refusal.specs.declared.Refusal.{Refusal}
 use Rattle.refusal.specs.Numbers.{number_of}
 use Rattle.refusal.specs.declared.Refusal.TheVariants.{UnfitFields}
 use Rattle.refusal.specs.Checks.{◌when◌, first_of}
-use Rattle.refusal.specs.Told.{Told, gives, refuses, retold}
+use Rattle.refusal.specs.Told.{Told, gives, refuses, retold, told}
 use Rattle.page_crc.specs.Crc.{page_crc}
 use Rattle.page_layout.specs.declared.PageHeader.{PageHeader}
 use Rattle.page_lacing.specs.Lacing.{is_body}
 use Rattle.page_layout.specs.Page.{lacing_of, body_of}
-use Rattle.page_reader.specs.declared.PageRead.{PageRead}
-use Rattle.page_reader.specs.declared.PageRead.TheVariants.{Page, Refused as NoPage}
-use Rattle.page_reader.specs.Reading.{read_page, told_read}
-use Rattle.page_writer.specs.declared.PageWritten.{PageWritten}
-use Rattle.page_writer.specs.declared.PageWritten.TheVariants.{Bytes as PageBytes, Refused as PageRefused}
-use Rattle.page_writer.specs.Writing.{write_checks, write_told as pageTold, write_out as page_out, told_written as told_page, Wrote as WrotePage}
+use Rattle.page_reader.specs.Reading.{read_page}
+use Rattle.page_writer.specs.Writing.{write_checks, write_told as pageTold, write_out as page_out, Wrote as WrotePage}
 use Rattle.head_fields.specs.declared.Head.{Head}
 use Rattle.head_numbers.specs.Numbers.{head_numbers, fitting, head_from}
 use Rattle.head_reader.specs.declared.HeadRead.{HeadRead}
-use Rattle.head_reader.specs.declared.Verdict.{Verdict}
-use Rattle.head_reader.specs.declared.Verdict.TheVariants.{Right, Refused}
 use Rattle.head_reader.specs.Reading.{read_head, told_by, HeadIs}
-use Rattle.head_writer.specs.declared.HeadWritten.{HeadWritten}
-use Rattle.head_writer.specs.declared.HeadWritten.TheVariants.{Bytes as HeadBytes, Refused as HeadRefused}
-use Rattle.head_writer.specs.Writing.{told_written as toldHead, Wrote as WroteHead}
-use Rattle.tags_writer.specs.declared.TagsWritten.{TagsWritten}
-use Rattle.tags_writer.specs.declared.TagsWritten.TheVariants.{Bytes as TagsBytes, Refused as TagsRefused}
-use Rattle.tags_writer.specs.Writing.{told_written as toldTags, Wrote as WroteTags}
+use Rattle.head_writer.specs.Writing.{Wrote as WroteHead}
+use Rattle.tags_writer.specs.Writing.{Wrote as WroteTags}
 use Rattle.embulgri.specs.Answers.{Answered, Wrote, page_numbers, PageIn, PageOut, HeadIn, head_told, head_out, HeadLaid, TagsOut}
 
 -- a call with one output, by what the code's answer tells
@@ -53,24 +45,24 @@ module _ {told by_code : Told ℕ} (same : by_code ≡ told) {laid end : Bytes} 
   unwritten e number = rw (← same, e, number) (record { answer = refl; output = output; written = refl })
 
 -- what is told of a page, as numbers
-abbrev numbers_told : Bytes → PageRead → Told (List ℕ)
-numbers_told p r = retold (page_numbers p) (told_read r)
+abbrev numbers_told : Bytes → Result PageHeader Refusal → Told (List ℕ)
+numbers_told p r = retold (page_numbers p) (told r)
 
-module _ (p : Bytes) (old : List ℕ) {r : PageRead} (same : told_read r ≡ read_page page_crc p) where
-  pub page-read : {h : PageHeader} {l b : Bytes} → l ≡ lacing_of p → b ≡ body_of p → r ≡ Page h
+module _ (p : Bytes) (old : List ℕ) {r : Result PageHeader Refusal} (same : told r ≡ read_page page_crc p) where
+  pub page-read : {h : PageHeader} {l b : Bytes} → l ≡ lacing_of p → b ≡ body_of p → r ≡ Ok h
       → PageIn p 0 old (h.flags ∷ h.granule ∷ h.serial ∷ h.sequence ∷ length l ∷ length b ∷ [])
   page-read el eb e = rw (el, eb) (answered (ap (retold (page_numbers p)) same) (ap (numbers_told p) e))
 
-  pub page-refused : {why : Refusal} {n : ℕ} → r ≡ NoPage why → n ≡ number_of why → PageIn p n old old
+  pub page-refused : {why : Refusal} {n : ℕ} → r ≡ Err why → n ≡ number_of why → PageIn p n old old
   page-refused e number = refused (ap (retold (page_numbers p)) same) (ap (numbers_told p) e) number
 
 module _ (h : PageHeader) (l b out : Bytes) (old : ℕ) where
-  module _ {r : PageWritten} {end : Bytes} (is : WrotePage h l b out r end) where
-    pub page-written : {n : ℕ} → r ≡ PageBytes n → PageOut h l b 0 out end old n
-    page-written e = wrote is.told is.output (ap told_page e)
+  module _ {r : Result ℕ Refusal} {end : Bytes} (is : WrotePage h l b out r end) where
+    pub page-written : {n : ℕ} → r ≡ Ok n → PageOut h l b 0 out end old n
+    page-written e = wrote is.told is.output (ap told e)
 
-    pub page_unwritten : {why : Refusal} {n : ℕ} → r ≡ PageRefused why → n ≡ number_of why → PageOut h l b n out end old old
-    page_unwritten e number = unwritten is.told is.output (ap told_page e) number
+    pub page_unwritten : {why : Refusal} {n : ℕ} → r ≡ Err why → n ≡ number_of why → PageOut h l b n out end old old
+    page_unwritten e number = unwritten is.told is.output (ap told e) number
 
   -- flags above 7 are refused whatever else is wrong, since the checks before theirs give the same number
   flags_decide : 7 < h.flags → first_of (write_checks h l b (length out)) ≡ some UnfitFields
@@ -87,14 +79,14 @@ module _ (h : PageHeader) (l b out : Bytes) (old : ℕ) where
 
 -- what a reading of a header leaves, by its verdict
 module _ (p : Bytes) (numbers places : List ℕ) (r : HeadRead) (is : HeadIs p r) where
-  pub head_read : {f : List ℕ} → r.verdict ≡ Right → f ≡ head_numbers r.head → HeadIn p 0 numbers f places r.head.mapping
+  pub head_read : {f : List ℕ} → r.verdict ≡ Ok tt → f ≡ head_numbers r.head → HeadIn p 0 numbers f places r.head.mapping
   head_read v f =
-      let e : read_head p ≡ gives r.head = sym is.told ∙ ap (λ (x : Verdict). told_by x r.head) v in
+      let e : read_head p ≡ gives r.head = sym is.told ∙ ap (λ (x : Result ⊤ Refusal). told_by x r.head) v in
       rw f (record { answer = rw e; numbers = rw e; places = rw e })
 
-  pub head-refused : {why : Refusal} {n : ℕ} → r.verdict ≡ Refused why → n ≡ number_of why → HeadIn p n numbers numbers places places
+  pub head-refused : {why : Refusal} {n : ℕ} → r.verdict ≡ Err why → n ≡ number_of why → HeadIn p n numbers numbers places places
   head-refused v m =
-      let e = sym is.told ∙ ap (λ (x : Verdict). told_by x r.head) v in
+      let e = sym is.told ∙ ap (λ (x : Result ⊤ Refusal). told_by x r.head) v in
       rw m (record { answer = rw e; numbers = rw e; places = rw e })
 
 module _ (f places matrix out : Bytes) (old : ℕ) where
@@ -103,26 +95,26 @@ module _ (f places matrix out : Bytes) (old : ℕ) where
   numbers_unfit e = record { answer = rw e; output = rw e; written = rw e }
 
   module _ {h : Head} (from : h ≡ head_from f places) (fit : fitting f ≡ true)
-      {r : HeadWritten} {end : Bytes} (is : WroteHead h matrix out r end) where
+      {r : Result ℕ Refusal} {end : Bytes} (is : WroteHead h matrix out r end) where
     -- what holds of the header holds of its numbers
-    told : toldHead r ≡ head_told f places matrix out
+    head-told : told r ≡ head_told f places matrix out
     unfolding head_told
-    told = rw (fit, ← from) is.told
+    head-told = rw (fit, ← from) is.told
 
     output : end ≡ head_out f places matrix out
     unfolding head_out
     output = rw (fit, ← from) is.output
 
-    pub head-written : {n : ℕ} → r ≡ HeadBytes n → HeadLaid f places matrix 0 out end old n
-    head-written e = wrote told output (ap toldHead e)
+    pub head-written : {n : ℕ} → r ≡ Ok n → HeadLaid f places matrix 0 out end old n
+    head-written e = wrote head-told output (ap told e)
 
-    pub head_unwritten : {why : Refusal} {n : ℕ} → r ≡ HeadRefused why → n ≡ number_of why → HeadLaid f places matrix n out end old old
-    head_unwritten e number = unwritten told output (ap toldHead e) number
+    pub head_unwritten : {why : Refusal} {n : ℕ} → r ≡ Err why → n ≡ number_of why → HeadLaid f places matrix n out end old old
+    head_unwritten e number = unwritten head-told output (ap told e) number
 
 module _ (vendor text : Bytes) (ns : List ℕ) (out : Bytes) (old : ℕ) where
-  module _ {r : TagsWritten} {end : Bytes} (is : WroteTags vendor text ns out r end) where
-    pub tags-written : {n : ℕ} → r ≡ TagsBytes n → TagsOut vendor text ns 0 out end old n
-    tags-written e = wrote is.told is.output (ap toldTags e)
+  module _ {r : Result ℕ Refusal} {end : Bytes} (is : WroteTags vendor text ns out r end) where
+    pub tags-written : {n : ℕ} → r ≡ Ok n → TagsOut vendor text ns 0 out end old n
+    tags-written e = wrote is.told is.output (ap told e)
 
-    pub tags_unwritten : {why : Refusal} {n : ℕ} → r ≡ TagsRefused why → n ≡ number_of why → TagsOut vendor text ns n out end old old
-    tags_unwritten e number = unwritten is.told is.output (ap toldTags e) number
+    pub tags_unwritten : {why : Refusal} {n : ℕ} → r ≡ Err why → n ≡ number_of why → TagsOut vendor text ns n out end old old
+    tags_unwritten e number = unwritten is.told is.output (ap told e) number

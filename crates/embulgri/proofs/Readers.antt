@@ -1,4 +1,5 @@
 -- Opening part way and feeding for C, by what the reader's own functions on numbers promise. Assumes nothing.
+use Rattle.std.specs.Prelude.{⊤, Result, Ok, Err}
 use Prim.Native.Nat.{ℕ}
 use mathlib.Core.Path.{◌≡◌, refl, sym, ap, ◌∙◌}
 use mathlib.Core.Bool.{true, false}
@@ -14,10 +15,6 @@ use Rattle.stream.specs.declared.Counts.{Counts}
 use Rattle.stream.specs.Feed.{Reader, open_part_way, Taken}
 use Rattle.stream.specs.Lent.{Lent}
 use Rattle.feed_numbers.specs.Numbers.{numbers_of}
-use Rattle.reader.specs.declared.StateOpened.{StateOpened}
-use Rattle.reader.specs.declared.StateOpened.TheVariants.{Done, Refused as NotOpened}
-use Rattle.reader.specs.declared.StateFed.{StateFed}
-use Rattle.reader.specs.declared.StateFed.TheVariants.{Accepted, Refused}
 use Rattle.reader.specs.Numbers.{told_opened_in, numbers_opened, StateOpenedIs, told_in, numbers_after, StateFedIs}
 use Rattle.feed_pages.specs.declared.StatePagesFed.{StatePagesFed}
 use Rattle.feed_pages.specs.Run.{Ended}
@@ -38,7 +35,7 @@ module _ (f : List ℕ) (m : Bytes) (old : List ℕ) where
   unfolding open_told
   open_unfit e = record { opens = rw e; state = rw e }
 
-  module _ {h : Head} (from : h ≡ head_from f m) (fit : fitting f ≡ true) {r : StateOpened} {new : List ℕ} (is : StateOpenedIs (open_part_way h) r old new) where
+  module _ {h : Head} (from : h ≡ head_from f m) (fit : fitting f ≡ true) {r : Result ⊤ Refusal} {new : List ℕ} (is : StateOpenedIs (open_part_way h) r old new) where
     told : open_told f m ≡ open_part_way h
     unfolding open_told
     told = rw (fit, ← from)
@@ -46,12 +43,12 @@ module _ (f : List ℕ) (m : Bytes) (old : List ℕ) where
     state-opened : new ≡ stored (retold numbers_of (open_told f m)) old
     state-opened = is.numbers ∙ stored-opened (open_part_way h) old ∙ ap (λ (t : Told Reader). stored (retold numbers_of t) old) (sym told)
 
-    pub opened : r ≡ Done → OpenedIn f m 0 old new
-    opened e = record { opens = sym (ap (λ (s : StateOpened). told_opened_in s new) e) ∙ is.told ∙ sym told; state = state-opened }
+    pub opened : r ≡ Ok tt → OpenedIn f m 0 old new
+    opened e = record { opens = sym (ap (λ (s : Result ⊤ Refusal). told_opened_in s new) e) ∙ is.told ∙ sym told; state = state-opened }
 
-    pub unopened : {number : ℕ} (why : Refusal) → r ≡ NotOpened why → number ≡ number_of why → OpenedIn f m number old new
+    pub unopened : {number : ℕ} (why : Refusal) → r ≡ Err why → number ≡ number_of why → OpenedIn f m number old new
     unopened why e n =
-        record { opens = rw (n, numbers_positive why) (sym (ap (λ (s : StateOpened). told_opened_in s new) e) ∙ is.told ∙ sym told); state = state-opened }
+        record { opens = rw (n, numbers_positive why) (sym (ap (λ (s : Result ⊤ Refusal). told_opened_in s new) e) ∙ is.told ∙ sym told); state = state-opened }
 
 -- ---- feeding
 
@@ -59,22 +56,22 @@ stored-after : (t : Told Taken) (old : List ℕ) → numbers_after t old ≡ sto
 stored-after (gives x) old = refl
 stored-after (refuses n) old = refl
 
-module _ (old : List ℕ) (page : Bytes) (m : Lent) {r : StateFed} {new : List ℕ} {after : Lent} (is : StateFedIs (fed_of old page m) r old new after)
+module _ (old : List ℕ) (page : Bytes) (m : Lent) {r : Result Counts Refusal} {new : List ℕ} {after : Lent} (is : StateFedIs (fed_of old page m) r old new after)
     (out : List ℕ) where
-  told-by : {s : StateFed} → r ≡ s → told_in s new ≡ (fed_of old page m).told
-  told-by e = sym (ap (λ (s : StateFed). told_in s new) e) ∙ is.fed.told
+  told-by : {s : Result Counts Refusal} → r ≡ s → told_in s new ≡ (fed_of old page m).told
+  told-by e = sym (ap (λ (s : Result Counts Refusal). told_in s new) e) ∙ is.fed.told
 
   state-after : new ≡ stored (retold (λ (x : Taken). numbers_of x.reader) (fed_of old page m).told) old
   state-after = is.numbers ∙ stored-after (fed_of old page m).told old
 
-  pub fed : {end : List ℕ} (c : Counts) → r ≡ Accepted c → end ≡ page_record c → FedIn old page m 0 new after out end
+  pub fed : {end : List ℕ} (c : Counts) → r ≡ Ok c → end ≡ page_record c → FedIn old page m 0 new after out end
   fed c e same = record {
     feeds = record { told = rw same (told-by e); lent = is.fed.lent };
     state = state-after;
     counts = rw (same, ← told-by e);
   }
 
-  pub unfed : {number : ℕ} (why : Refusal) → r ≡ Refused why → number ≡ number_of why → FedIn old page m number new after out out
+  pub unfed : {number : ℕ} (why : Refusal) → r ≡ Err why → number ≡ number_of why → FedIn old page m number new after out out
   unfed why e n = record {
     feeds = record { told = rw (n, numbers_positive why) (told-by e); lent = is.fed.lent };
     state = state-after;

@@ -1,8 +1,6 @@
 // What the writer of a stream was advised against, for programs in C, Rust and Python (RULES.md, 18).
 ghost use Rattle.embulgri.specs.Checking.{CheckedIn};
 
-use check_stream::Checked;
-
 // Checks a whole stream. Into `kinds` and `pages`: its findings, by page and then by kind. Into `count`: how many they are. Returns
 // the number that refuses the stream, 2 to 18 or 24; else 22 where the shorter list has fewer places than there are findings; or
 // 0. A refusal changes nothing (RULES.md, 18; embulgri.h).
@@ -12,10 +10,10 @@ pub fn embulgri_check(stream: &[u8], kinds: &mut [u64], pages: &mut [u64], count
         pages.old pages.new count.old count.new }
 {
     match check_stream::check(stream, kinds, pages) {
-        Checked::Found(n) => {
+        Ok(n) => {
             *count = n as u64;
             0
         }
-        Checked::Refused(why) => refusal::number(why) as u32,
+        Err(why) => refusal::number(why) as u32,
     }
 }

@@ -4,9 +4,6 @@ ghost use Rattle.stream.specs.Readings.{readings};
 ghost use Rattle.crop_start.specs.Start.{start_found};
 ghost use Rattle.embulgri.specs.Cropping.{CroppedIn, StartIn};
 
-use crop::Cropped;
-use crop_start::CropStart;
-
 // Crops a whole stream at a page, the first being page 0. Into `out`: both headers as they are, and all pages from that one on,
 // renumbered, with their checksums made again. Into `written`: how many bytes. Returns the number that refuses the stream, 2 to
 // 18 or 24; else 29 where a crop may not begin at the page; else 22 where the output is shorter than the crop; or 0. A refusal
@@ -17,11 +14,11 @@ pub fn embulgri_crop(stream: &[u8], page: u64, out: &mut [u8], written: &mut u64
         written.old written.new }
 {
     match crop::crop(stream, page as usize, out) {
-        Cropped::Bytes(n) => {
+        Ok(n) => {
             *written = n as u64;
             0
         }
-        Cropped::Refused(why) => refusal::number(why) as u32,
+        Err(why) => refusal::number(why) as u32,
     }
 }
 
@@ -34,10 +31,10 @@ pub fn embulgri_crop_start(stream: &[u8], last: u64, position: u64, start: &mut 
         start.old start.new }
 {
     match crop_start::find_start(stream, last as usize, position) {
-        CropStart::At(page, at) => {
-            *start = [page as u64, at];
+        Ok(found) => {
+            *start = [found.page as u64, found.position];
             0
         }
-        CropStart::Refused(why) => refusal::number(why) as u32,
+        Err(why) => refusal::number(why) as u32,
     }
 }

@@ -9,8 +9,6 @@ ghost use Rattle.feed_pages.specs.State.{run_from};
 ghost use Rattle.embulgri.specs.Feeding.{OpenedIn, page_record, FedIn, end_number, why_number, refusal_number, PagesIn};
 
 use feed_pages::Stop;
-use page_end::End;
-use reader::{StateFed, StateOpened};
 use refusal::Refusal;
 use stream::Counts;
 
@@ -33,8 +31,8 @@ pub fn embulgri_open(fields: &[u64; 8], mapping: &[u8; 255], state: &mut [u64; 1
         return refusal::number(Refusal::UnfitFields) as u32;
     }
     match reader::open_state(head_numbers::head_of(fields, mapping), state) {
-        StateOpened::Done => 0,
-        StateOpened::Refused(why) => refusal::number(why) as u32,
+        Ok(()) => 0,
+        Err(why) => refusal::number(why) as u32,
     }
 }
 
@@ -64,11 +62,11 @@ pub fn embulgri_feed(
         state.new (at_exit carry ends lengths kept frames) out.old out.new }
 {
     match reader::feed_state(state, page, carry, ends, lengths, kept, frames) {
-        StateFed::Accepted(counts) => {
+        Ok(counts) => {
             *out = page_record(counts);
             0
         }
-        StateFed::Refused(why) => refusal::number(why) as u32,
+        Err(why) => refusal::number(why) as u32,
     }
 }
 
@@ -79,8 +77,8 @@ pub fn embulgri_page_end(bytes: &[u8], at: u64) -> u64
     ensures { result ≡ end_number (end_at bytes.now at) }
 {
     match page_end::end_at(bytes, at as usize) {
-        End::At(end) => end as u64,
-        End::Cut => 0,
+        Some(end) => end as u64,
+        None => 0,
     }
 }
 

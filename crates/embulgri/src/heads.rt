@@ -2,9 +2,6 @@
 // family 3 stays where it lies in the packet (RULES.md, 14).
 ghost use Rattle.embulgri.specs.Answers.{HeadIn, HeadLaid, MatrixIn, EntryIn};
 
-use head_matrix::{EntryRead, SizeRead};
-use head_reader::Verdict;
-use head_writer::HeadWritten;
 use refusal::Refusal;
 
 // Reads one identification header. Into `fields`: its eight numbers. Into `mapping`: its 255 places. Returns 12, 13 or 0
@@ -19,13 +16,13 @@ pub fn embulgri_head_read(packet: &[u8], fields: &mut [u64; 8], mapping: &mut [u
     let verdict = read.verdict;
     let head = read.head;
     match verdict {
-        Verdict::Right => {
+        Ok(()) => {
             *fields = head_numbers::numbers_of(head);
             let places = head.mapping;
             *mapping = places;
             0
         }
-        Verdict::Refused(why) => refusal::number(why) as u32,
+        Err(why) => refusal::number(why) as u32,
     }
 }
 
@@ -49,11 +46,11 @@ pub fn embulgri_head_write(
     let head = head_numbers::head_of(fields, mapping);
     let wrote = head_writer::write_head(head, matrix, out);
     match wrote {
-        HeadWritten::Bytes(n) => {
+        Ok(n) => {
             *written = n as u64;
             0
         }
-        HeadWritten::Refused(why) => refusal::number(why) as u32,
+        Err(why) => refusal::number(why) as u32,
     }
 }
 
@@ -65,11 +62,11 @@ pub fn embulgri_head_matrix(packet: &[u8], part: &mut [u64; 2]) -> u32
 {
     let read = head_matrix::read_size(packet);
     match read {
-        SizeRead::Size(n) => {
+        Ok(n) => {
             *part = head_numbers::matrix_numbers(n);
             0
         }
-        SizeRead::Refused(why) => refusal::number(why) as u32,
+        Err(why) => refusal::number(why) as u32,
     }
 }
 
@@ -80,10 +77,10 @@ pub fn embulgri_head_matrix_entry(packet: &[u8], i: u64, value: &mut u64) -> u32
 {
     let read = head_matrix::read_entry(packet, i as usize);
     match read {
-        EntryRead::Entry(x) => {
+        Ok(x) => {
             *value = number_signed::unsigned16(x) as u64;
             0
         }
-        EntryRead::Refused(why) => refusal::number(why) as u32,
+        Err(why) => refusal::number(why) as u32,
     }
 }

@@ -6,8 +6,6 @@ ghost use Rattle.index_walk.specs.Records.{index_of};
 ghost use Rattle.index_columns.specs.Columns.{seek_columns};
 ghost use Rattle.embulgri.specs.Index.{IndexIn, AnswerIn, SoughtIn};
 
-use index_builder::IndexBuilt;
-use index_columns::ColumnsSought;
 use index_search::Sought;
 
 // Returns how many records the index of the stream has, so that the lists can be lent (RULES.md, 15; embulgri.h). It stores
@@ -33,11 +31,11 @@ pub fn embulgri_index_build(
     ensures { IndexIn stream.now result granules places sequences count.old count.new }
 {
     match index_columns_builder::build(stream, granules, places, sequences) {
-        IndexBuilt::Built(n) => {
+        Ok(n) => {
             *count = n as u64;
             0
         }
-        IndexBuilt::Refused(why) => refusal::number(why) as u32,
+        Err(why) => refusal::number(why) as u32,
     }
 }
 
@@ -77,7 +75,7 @@ pub fn embulgri_index_seek(
         result out.old out.new place.old place.new }
 {
     match index_columns::seek(granules, places, sequences, target) {
-        ColumnsSought::Found(sought) => store_answer(sought, out, place),
-        ColumnsSought::Refused(why) => refusal::number(why) as u32,
+        Ok(sought) => store_answer(sought, out, place),
+        Err(why) => refusal::number(why) as u32,
     }
 }

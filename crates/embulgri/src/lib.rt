@@ -6,23 +6,18 @@
 // embulgri_judge and the place of embulgri_index_seek (RULES.md, 15).
 #![tactic(auto)]
 
+ghost use Rattle.refusal.specs.Told.{told};
 ghost use Rattle.std.specs.Prelude.{◌≡◌};
 ghost use Rattle.page_crc.specs.Crc.{crc};
-ghost use Rattle.tags_layout.specs.Finding.{told_part};
 ghost use Rattle.octets.specs.Pick.{pick};
 ghost use Rattle.embulgri.specs.Answers.{PageIn, PageOut, packet_numbers, PacketIn, TagsIn, PartIn, VendorIn};
 ghost use Rattle.embulgri.specs.Answers.{CommentIn, GainIn, TagsOut, ClockAfter};
 
-use old_clock::{Added, Clock};
-use packet_reader::{Contents, PacketRead};
+use old_clock::Clock;
+use packet_reader::Contents;
 use page_layout::PageHeader;
-use page_reader::PageRead;
-use page_writer::PageWritten;
 use refusal::Refusal;
-use tags_comment::GainRead;
-use tags_layout::PartRead;
-use tags_reader::TagsRead;
-use tags_writer::TagsWritten;
+use tags_layout::Part;
 
 pub mod checking;
 pub mod cropping;
@@ -52,7 +47,7 @@ pub fn embulgri_page_read(page: &[u8], out: &mut [u64; 6]) -> u32
 {
     let read = page_reader::read_page(page);
     match read {
-        PageRead::Page(h) => {
+        Ok(h) => {
             let values = page_layout::lacing_of(page).len();
             let body = page_layout::body_of(page).len();
             *out = [
@@ -65,7 +60,7 @@ pub fn embulgri_page_read(page: &[u8], out: &mut [u64; 6]) -> u32
             ];
             0
         }
-        PageRead::Refused(why) => refusal::number(why) as u32,
+        Err(why) => refusal::number(why) as u32,
     }
 }
 
@@ -96,11 +91,11 @@ pub fn embulgri_page_write(
     };
     let wrote = page_writer::write_page(h, lacing, body, out);
     match wrote {
-        PageWritten::Bytes(n) => {
+        Ok(n) => {
             *written = n as u64;
             0
         }
-        PageWritten::Refused(why) => refusal::number(why) as u32,
+        Err(why) => refusal::number(why) as u32,
     }
 }
 
@@ -131,11 +126,11 @@ pub fn embulgri_packet_read(packet: &[u8], streams: u64, out: &mut [u64; 4]) -> 
 {
     let read = packet_reader::read_packet(packet, streams);
     match read {
-        PacketRead::Legal(contents) => {
+        Ok(contents) => {
             *out = packet_numbers(contents);
             0
         }
-        PacketRead::Refused(why) => refusal::number(why) as u32,
+        Err(why) => refusal::number(why) as u32,
     }
 }
 
@@ -146,24 +141,24 @@ pub fn embulgri_tags_read(packet: &[u8], count: &mut u64) -> u32
 {
     let read = tags_reader::read_tags(packet);
     match read {
-        TagsRead::Count(n) => {
+        Ok(n) => {
             *count = n as u64;
             0
         }
-        TagsRead::Refused(why) => refusal::number(why) as u32,
+        Err(why) => refusal::number(why) as u32,
     }
 }
 
 // Into `part`: where it starts in the packet, and its length.
-fn store_part(found: PartRead, part: &mut [u64; 2]) -> u32
-    ensures { PartIn (told_part found) result part.old part.new }
+fn store_part(found: Result<Part, Refusal>, part: &mut [u64; 2]) -> u32
+    ensures { PartIn (told found) result part.old part.new }
 {
     match found {
-        PartRead::Found(p) => {
+        Ok(p) => {
             *part = [p.start as u64, p.size as u64];
             0
         }
-        PartRead::Refused(why) => refusal::number(why) as u32,
+        Err(why) => refusal::number(why) as u32,
     }
 }
 
@@ -191,11 +186,11 @@ pub fn embulgri_tags_gain(packet: &[u8], i: u64, gain: &mut u64) -> u32
 {
     let read = tags_parts::gain(packet, i as usize);
     match read {
-        GainRead::Gain(g) => {
+        Ok(g) => {
             *gain = number_signed::unsigned16(g) as u64;
             0
         }
-        GainRead::Refused(why) => refusal::number(why) as u32,
+        Err(why) => refusal::number(why) as u32,
     }
 }
 
@@ -213,11 +208,11 @@ pub fn embulgri_tags_write(
 {
     let wrote = tags_writer::write_tags(vendor, text, lengths, out);
     match wrote {
-        TagsWritten::Bytes(n) => {
+        Ok(n) => {
             *written = n as u64;
             0
         }
-        TagsWritten::Refused(why) => refusal::number(why) as u32,
+        Err(why) => refusal::number(why) as u32,
     }
 }
 
@@ -233,11 +228,11 @@ pub fn embulgri_clock_add(reading: &mut f32, count: &mut u64, samples: u64) -> u
     };
     let added = old_clock::add(clock, samples);
     match added {
-        Added::Clock(next) => {
+        Ok(next) => {
             *reading = next.reading;
             *count = next.count;
             0
         }
-        Added::Refused(why) => refusal::number(why) as u32,
+        Err(why) => refusal::number(why) as u32,
     }
 }

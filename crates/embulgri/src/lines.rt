@@ -4,8 +4,6 @@ ghost use Rattle.text_put.specs.Writing.{Put};
 ghost use Rattle.list_lines.specs.Lines.{first_line, refused_line};
 ghost use Rattle.embulgri.specs.Lines.{state_total, EntriesIn, HeaderLines};
 
-use list_headers::HeadersWritten;
-
 // The line above all packets, from place `at` of `out` on: it returns the place after it, or `at` where it does not fit
 // (embulgri.h). Example: with at 0 and an `out` of 20 bytes or more it returns 20.
 pub fn embulgri_list_first(out: &mut [u8], at: u64) -> u64
@@ -58,10 +56,10 @@ pub fn embulgri_header_lines(head: &[u8], tags: &[u8], out: &mut [u8], written: 
 {
     let wrote = list_headers::write_headers(head, tags, out);
     match wrote {
-        HeadersWritten::Bytes(n) => {
+        Ok(n) => {
             *written = n as u64;
             0
         }
-        HeadersWritten::Refused(why) => refusal::number(why) as u32,
+        Err(why) => refusal::number(why) as u32,
     }
 }

@@ -3,8 +3,6 @@ ghost use Rattle.text_put.specs.Writing.{Put};
 ghost use Rattle.salvage_lines.specs.Lines.{change_line};
 ghost use Rattle.embulgri.specs.Saving.{SalvagedIn};
 
-use salvage::Salvaged;
-
 // Saves what can be saved of a stream of which some bytes may be damaged. Into `out`: the stream that is saved. Into `what`,
 // `places` and `sizes`: a line for each thing skipped or changed. Into `counts`: how many bytes and how many lines. Returns 1
 // where the work list has fewer places than a 27th of the bytes; else 24 where no page is marked first or a header is lost;
@@ -23,11 +21,11 @@ pub fn embulgri_salvage(
     ensures { SalvagedIn bytes.now result work out what places sizes counts.old counts.new }
 {
     match salvage::salvage(bytes, work, out, what, places, sizes) {
-        Salvaged::Written(n, lines) => {
-            *counts = [n as u64, lines as u64];
+        Ok(saved) => {
+            *counts = [saved.bytes as u64, saved.lines as u64];
             0
         }
-        Salvaged::Refused(why) => refusal::number(why) as u32,
+        Err(why) => refusal::number(why) as u32,
     }
 }
 

@@ -6,7 +6,6 @@ ghost use Rattle.recording.specs.Judging.{judge_buffer};
 ghost use Rattle.salvage_search.specs.Search.{next_page};
 ghost use Rattle.embulgri.specs.Streams.{JudgedIn};
 
-use recording::Judged;
 use refusal::Refusal;
 
 // Judges a stream: its pages are fed to a reader just started. Into `page`, where one is refused: its number, the first being 0.
@@ -17,13 +16,13 @@ pub fn embulgri_judge(stream: &[u8], page: &mut u64) -> u32
     ensures { JudgedIn (judge_buffer (readings page_crc) stream.now) result page.old page.new }
 {
     match recording::judge(stream) {
-        Judged::Whole(_, _) => 0,
-        Judged::Refused(why, at) => {
-            let number = refusal::number(why);
+        Ok(_) => 0,
+        Err(refused) => {
+            let number = refusal::number(refused.why);
             if number == refusal::number(Refusal::HeadersIncomplete) {
                 return number as u32;
             }
-            *page = at as u64;
+            *page = refused.page as u64;
             number as u32
         }
     }

@@ -6,9 +6,9 @@
 // embulgri_judge and the place of embulgri_index_seek (RULES.md, 15).
 #![tactic(auto)]
 
+ghost use Rattle.refusal.specs.Told.{told};
 ghost use Rattle.std.specs.Prelude.{◌≡◌};
 ghost use Rattle.page_crc.specs.Crc.{crc};
-ghost use Rattle.tags_layout.specs.Finding.{told_part};
 ghost use Rattle.octets.specs.Pick.{pick};
 ghost use Rattle.embulgri.specs.Answers.{PageIn, PageOut, packet_numbers, PacketIn, TagsIn, PartIn, VendorIn};
 ghost use Rattle.embulgri.specs.Answers.{CommentIn, GainIn, TagsOut, ClockAfter};

@@ -1,4 +1,5 @@
 -- Packets of one frame and one first byte: what a turn of `same_packets` keeps, and their measures. Assumes nothing.
+use Rattle.std.specs.Prelude.{Option, Some, None}
 use Prim.Native.Nat.{ℕ, zero, suc, ◌+◌, ◌*◌, ◌-◌, ◌≤◌, ◌<◌}
 use mathlib.Core.Path.{◌≡◌, refl, sym, ap, subst, ◌∙◌}
 use mathlib.Core.Bool.{true}
@@ -20,7 +21,6 @@ use Rattle.stream.specs.declared.Pending.{Pending}
 use Rattle.stream.specs.declared.Pending.TheVariants.{Nothing}
 use Rattle.stream.specs.Page.{whole_from}
 use Rattle.feed_audio.specs.declared.packets.Same.{Same}
-use Rattle.feed_audio.specs.declared.packets.Same.TheVariants.{Each, Differ}
 use Rattle.feed_audio.specs.Code.{in_front, and_later, measure_in, measured, packets_by}
 use Rattle.feed_audio.specs.Alike.{is_single_of, single, Singles, Alike, SinglesOn, AlikeOn}
 use Rattle.feed_audio.proofs.Turns.{total-next}
@@ -98,16 +98,16 @@ all_alike {toc} {l} {body} {count} {start} {bytes} {i} g h few =
     record { few = omega (arith, g.few, g.within); reads = sym all ∙ ap gives (append-nil (replicate count (single toc))) }
 
 -- what is pending, and the streams
-pub on_page_lem : (r : Same) (pending : Pending) (streams : ℕ) (l body : Bytes) → pending ≡ Nothing → streams ≡ 1 → Alike r l body
+pub on_page_lem : (r : Option Same) (pending : Pending) (streams : ℕ) (l body : Bytes) → pending ≡ Nothing → streams ≡ 1 → Alike r l body
     → AlikeOn r pending streams l body
-on_page_lem (Each n toc) pending streams l body p s a = record { none = p; one = s; singles = a }
-on_page_lem Differ pending streams l body p s a = tt
+on_page_lem (Some r) pending streams l body p s a = record { none = p; one = s; singles = a }
+on_page_lem None pending streams l body p s a = tt
 
 -- the answer and the number of streams being known
-pub known_alike : {r : Same} {n toc : ℕ} {streams count : ℕ} (pending : Pending) (l body : Bytes) → r ≡ Each n toc → streams ≡ count
+pub known_alike : {r : Option Same} {n toc : ℕ} {streams count : ℕ} (pending : Pending) (l body : Bytes) → r ≡ (Some (record { count = n; toc = toc })) → streams ≡ count
     → AlikeOn r pending streams l body → SinglesOn n toc pending count l body
 known_alike {n = n} {toc = toc} {streams = streams} pending l body e s a =
-    subst (λ (k : ℕ). SinglesOn n toc pending k l body) s (subst (λ (x : Same). AlikeOn x pending streams l body) e a)
+    subst (λ (k : ℕ). SinglesOn n toc pending k l body) s (subst (λ (x : Option Same). AlikeOn x pending streams l body) e a)
 
 -- the page's packets, where they are such packets
 pub alike-measured : {n toc : ℕ} {pending : Pending} {streams : ℕ} {l body : Bytes} (values bytes : ℕ) (carry : Bytes)

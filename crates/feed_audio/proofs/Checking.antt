@@ -1,4 +1,7 @@
 -- 1, 9 and 11 of an audio page, and what the two ways past them ask. Assumes nothing.
+use Rattle.std.specs.Prelude.{Some, None, Result, Ok, Err}
+use Rattle.refusal.specs.declared.Refusal.{Refusal}
+use Rattle.stream.specs.declared.PageFed.{PageFed}
 use Prim.Native.Nat.{ℕ, ◌+◌, ◌<◌, ◌≤◌, ◌^◌}
 use mathlib.Core.Path.{◌≡◌, refl, sym, ap, subst, ◌∙◌}
 use mathlib.Core.Bool.{Bool, true, false, not, ◌&&◌, false≢true}
@@ -11,7 +14,6 @@ use lib.ListN.{length}
 use Rattle.octets.specs.Pick.{pick}
 use Rattle.octets.specs.Octets.{Bytes, total}
 use Rattle.octets.proofs.Tests.{both}
-use Rattle.refusal.specs.declared.Refusal.{Refusal}
 use Rattle.refusal.specs.declared.Refusal.TheVariants.{PacketTooLong, WrongGranule}
 use Rattle.refusal.specs.Checks.{first_of}
 use Rattle.refusal.specs.Told.{Told}
@@ -33,15 +35,12 @@ use Rattle.limits.specs.Limits.{packet_max, list_max}
 use Rattle.stream.specs.Lent.{Lent, is_short, short_by}
 use Rattle.stream.specs.Feed.{carried_in, view, carry_after, fed_by, reader_of, FedIs, Taken, told_page}
 use Rattle.stream.proofs.Pieces.{or_left, or_right, seen-completes}
-use Rattle.stream.specs.declared.PageFed.TheVariants.{Refused}
-use Rattle.feed_audio.specs.declared.AudioFed.TheVariants.{Page as OfPage, NotAudio}
 use Rattle.feed_audio.specs.Audio.{is_audio_page, audio_checks, audio_fed, audio_on, FeedsAudio}
 use Rattle.feed_audio.specs.Code.{first_from, held_end, fresh_by, checks_past11, fed_past11, Fitting, AnyCompletes, NoneCompletes}
 use Rattle.feed_audio.proofs.Splitting.{Ended, ways, ends-first}
 use Rattle.feed_audio.proofs.Seeing.{tail_le, tail-here}
 use Rattle.feed_audio.proofs.Feeding.{in_audio, in_audio_lem}
 use Rattle.feed_lacing.specs.Scan.{tail_by, scan_by}
-use Rattle.feed_lacing.specs.declared.Scan.TheVariants.{TooLong, Rest}
 use Rattle.feed_lacing.proofs.Scanning.{scan_long, scan_short}
 
 -- ---- 1
@@ -85,12 +84,12 @@ module _ (k : Core) (t : Tally) (h : PageHeader) (l body : Bytes) (lent : Lent) 
         frames = ltb-false (length lent.frames) list_max (or_right (ltb (length lent.kept) list_max) _ last);
       }
 
-  pub not-due : (R : Readings) → tested ≡ false → FeedsAudio R (reader_of k t) page lent NotAudio lent
+  pub not-due : (R : Readings) → tested ≡ false → FeedsAudio R (reader_of k t) page lent None lent
   unfolding is_audio_page is_short
   not-due R e = record { told = rw e; lent = rw e }
 
-  pub due : (R : Readings) → tested ≡ true → (f : PageFed) {after : Lent}
-      → FedIs (audio_on R (reader_of k t) lent page) (told_page f) after → FeedsAudio R (reader_of k t) page lent (OfPage f) after
+  pub due : (R : Readings) → tested ≡ true → (f : Result PageFed Refusal) {after : Lent}
+      → FedIs (audio_on R (reader_of k t) lent page) (told_page f) after → FeedsAudio R (reader_of k t) page lent (Some f) after
   unfolding is_audio_page is_short
   due R e f {after} o = record { told = rw e (ap some o.told); lent = rw e o.lent }
 
@@ -127,7 +126,7 @@ module _ (R : Readings) (k : Core) (t : Tally) (h : PageHeader) (l body : Bytes)
       subst (λ (i : Core). FedIs (audio_on R (reader_of i t) all whole) r after) (in_audio_lem k audio)
       (subst (λ (w : Option Refusal). FedIs (fed_by w R (reader_of (in_audio k) t) all state whole sight) r after) (sym same) o)
 
-  pub too_long_lem : TooLong ≡ scan_by k.pending l → FedIs (audio_on R (reader_of k t) all whole) (told_page (Refused PacketTooLong)) all
+  pub too_long_lem : None ≡ scan_by k.pending l → FedIs (audio_on R (reader_of k t) all whole) (told_page (Err PacketTooLong)) all
   unfolding carry_after
   too_long_lem e =
       let is : long ≡ true = scan_long k.pending l carry e in
@@ -135,7 +134,7 @@ module _ (R : Readings) (k : Core) (t : Tally) (h : PageHeader) (l body : Bytes)
       (verdict ∙ ap (λ (b : Bool). pick b (some PacketTooLong) (pick (granule_wrong granule_max (first_from 0 l).ends h.granule) (some WrongGranule) late)) is)
       (record { told = refl; lent = refl })
 
-  module _ (rest : ℕ) (e : Rest rest ≡ scan_by k.pending l) where
+  module _ (rest : ℕ) (e : Some rest ≡ scan_by k.pending l) where
     passed : (long ≡ false) × (rest ≡ tail_by k.pending l)
     passed = scan_short k.pending l carry rest e
 
@@ -144,7 +143,7 @@ module _ (R : Readings) (k : Core) (t : Tally) (h : PageHeader) (l body : Bytes)
         verdict ∙ ap (λ (b : Bool). pick b (some PacketTooLong) (pick (granule_wrong granule_max (first_from 0 l).ends h.granule) (some WrongGranule) late)) passed.0
 
     pub wrong-granule : granule_wrong granule_max (first_from 0 l).ends h.granule ≡ true
-        → FedIs (audio_on R (reader_of k t) all whole) (told_page (Refused WrongGranule)) all
+        → FedIs (audio_on R (reader_of k t) all whole) (told_page (Err WrongGranule)) all
     unfolding carry_after
     wrong-granule w =
         audio_as (some WrongGranule) (not-long ∙ ap (λ (b : Bool). pick b (some WrongGranule) late) w)
@@ -177,7 +176,7 @@ fresh-fits (Held n) l = omega arith
 fresh-fits Dropped l = omega arith
 
 module _ (k : Core) (h : PageHeader) (l body : Bytes) (lent : Lent) (f : Fitting k l body lent) (rest : ℕ)
-    (e : Rest rest ≡ scan_by k.pending l) where
+    (e : Some rest ≡ scan_by k.pending l) where
   shorts : (is_long (carried_in k.pending lent.carry) l ≡ false) × (rest ≡ tail_by k.pending l)
   shorts = scan_short k.pending l lent.carry rest e
 

@@ -1,4 +1,5 @@
 -- A page past 11, by what is seen of it: what the code tells and leaves is what the rules say. Assumes nothing.
+use Rattle.std.specs.Prelude.{Result, Ok, Err}
 use Prim.Native.Nat.{ℕ, ◌-◌, ◌≤◌}
 use mathlib.Core.Path.{◌≡◌, refl, sym, ap, ap₂, ◌∙◌}
 use mathlib.Core.List.{List, [], ◌++◌, map}
@@ -32,7 +33,6 @@ use Rattle.stream.specs.Packets.{begun, audio_packets, measures_of, samples_of}
 use Rattle.stream.specs.Rules.{packet_checks, time_checks, start_on, next_on}
 use Rattle.stream.specs.Feed.{Reader, carried_in, pending_of, view, Entry, entries, entries_on, counts_on, skip_on, tally_after, tally_on, first_piece, appended, carry_after, with_entries, fed_by, reader_of, no_counts, FedIs, told_page}
 use Rattle.stream.proofs.Step.{gives≢refuses}
-use Rattle.stream.specs.declared.PageFed.TheVariants.{Accepted, Refused}
 use Rattle.feed_audio.specs.Code.{measures_in, Lists, counts_by, next_core, on_past11}
 use Rattle.feed_audio.proofs.Measuring.{length-measures}
 use Rattle.feed_audio.proofs.Verdicts.{judging, placing, late}
@@ -47,7 +47,7 @@ in_audio_lem k e =
     ap (λ (ph : Phase). record { phase = ph; pending = k.pending; position = k.position; serial = k.serial; next = k.next; streams = k.streams; preskip = k.preskip }) (sym e)
 
 same-told : {a b : Core} {x y : Tally} {c d : Counts} → a ≡ b → x ≡ y → c ≡ d
-    → told_page (Accepted a x c) ≡ gives (record { reader = record { core = b; tally = y }; counts = d })
+    → told_page (Ok (record { core = a; tally = x; counts = c })) ≡ gives (record { reader = record { core = b; tally = y }; counts = d })
 same-told e f g = cc
 
 same_gives : {a b : Placed} → ◌≡◌ {A = Told Placed} (gives a) (gives b) → a ≡ b
@@ -79,12 +79,12 @@ module _ (R : Readings) (k : Core) (t : Tally) (h : PageHeader) (l body : Bytes)
     checks = packet_checks R k.streams ps ++ judging k h measures
 
     pub refused : (why : Refusal) {now : Bytes} → refuses (number_of why) ≡ decided (first_of checks) (placing k h measures) → now ≡ joined
-        → FedIs (on_past11 R reader m state page (completing ps r)) (told_page (Refused why)) (with_carry m now)
+        → FedIs (on_past11 R reader m state page (completing ps r)) (told_page (Err why)) (with_carry m now)
     unfolding audio_packets time_checks measures_of last carry_after
     refused why {now} q c = by (first_of checks) refl q
       where
         by : (v : Option Refusal) → first_of checks ≡ v → refuses (number_of why) ≡ decided v (placing k h measures)
-            → FedIs (fed_by v R reader m state page (completing ps r)) (told_page (Refused why)) (with_carry m now)
+            → FedIs (fed_by v R reader m state page (completing ps r)) (told_page (Err why)) (with_carry m now)
         by none e q = absurd (gives≢refuses (sym q))
         by (some n) e q = record {
           told = ap refuses (ap number_in q);
@@ -116,12 +116,12 @@ module _ (R : Readings) (k : Core) (t : Tally) (h : PageHeader) (l body : Bytes)
           s ∙ ap (λ (i : ℕ). counts_by i d w t.skip (is_last_page h.flags) h.granule) count
           ∙ ap₂ (λ (i : ℕ) (z : Placed). counts_by (length measures) i z t.skip (is_last_page h.flags) h.granule) sums e
 
-      pub accepted : FedIs (on_past11 R reader m state page (completing ps r)) (told_page (Accepted after tally counts)) (lent_of later es ss ks fs)
+      pub accepted : FedIs (on_past11 R reader m state page (completing ps r)) (told_page (Ok (record { core = after; tally = tally; counts = counts }))) (lent_of later es ss ks fs)
       unfolding audio_packets time_checks measures_of last next_on skip_on tally_on
       accepted = by (first_of checks) q
         where
           by : (v : Option Refusal) → gives w ≡ decided v (placing k h measures)
-              → FedIs (fed_by v R reader m state page (completing ps r)) (told_page (Accepted after tally counts)) (lent_of later es ss ks fs)
+              → FedIs (fed_by v R reader m state page (completing ps r)) (told_page (Ok (record { core = after; tally = tally; counts = counts }))) (lent_of later es ss ks fs)
           by none q =
               let e : w ≡ placing k h measures = same_gives q in
               record {
@@ -134,7 +134,7 @@ module _ (R : Readings) (k : Core) (t : Tally) (h : PageHeader) (l body : Bytes)
   -- ---- where none does
 
   pub piece-fed : {later : Bytes} {after : Core} (left : Carried) (next : Pending) → later ≡ carry_after none state page m.carry → after ≡ next_core k h next k.position
-      → pending_of left ≡ next → FedIs (on_past11 R reader m state page (going left)) (told_page (Accepted after (tally_after t t.skip no_counts) no_counts)) (with_carry m later)
+      → pending_of left ≡ next → FedIs (on_past11 R reader m state page (going left)) (told_page (Ok (record { core = after; tally = (tally_after t t.skip no_counts); counts = no_counts }))) (with_carry m later)
   unfolding audio_packets packet_checks time_checks first_of measures_of last next_on skip_on tally_on counts_on entries_on entries samples_of kept_of skipped_of trimmed_of tally
   piece-fed left next c a p = record {
     told = same-told (a ∙ ap (λ (z : Pending). next_core k h z k.position) (sym p)) (ap (λ (z : ℕ). tally_after t z no_counts) (omega arith)) refl;

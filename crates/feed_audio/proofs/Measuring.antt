@@ -1,4 +1,5 @@
 -- The packets' measures: what a turn of `measure` keeps, and what `measure_page` puts in front. Assumes nothing.
+use Rattle.std.specs.Prelude.{Result, Ok, Err}
 use Prim.Native.Nat.{ℕ, suc, ◌+◌, ◌*◌, ◌-◌, ◌/◌, ◌%◌, ◌<◌, ◌≤◌}
 use mathlib.Core.Path.{◌≡◌, refl, sym, ap, ap₂, ◌∙◌}
 use mathlib.Core.Bool.{Bool}
@@ -10,20 +11,18 @@ use lib.ListN.{length, get_or, take, drop, set, length-set, drop_of_length-le}
 use lib.Seq.{take-suc-set, drop-drop}
 use Rattle.octets.specs.Octets.{Bytes, total}
 use Rattle.refusal.specs.declared.Refusal.{Refusal}
-use Rattle.refusal.specs.Told.{Told, gives, refuses, retold}
+use Rattle.refusal.specs.Told.{Told, gives, refuses, retold, told}
 use Rattle.refusal.specs.Numbers.{number_of}
 use Rattle.page_lacing.specs.Lacing.{cut_from}
 use Rattle.packet_frames.specs.Frames.{samples_max}
 use Rattle.packet_reader.specs.declared.Measure.{Measure}
 use Rattle.packet_reader.specs.declared.Contents.{Contents}
-use Rattle.packet_reader.specs.declared.PacketRead.{PacketRead}
-use Rattle.packet_reader.specs.Streams.{read_packet, told_packet}
+use Rattle.packet_reader.specs.Streams.{read_packet}
 use Rattle.packet_reader.proofs.Legal.{legal-lengths}
 use Rattle.stream.specs.Page.{whole_from}
 use Rattle.stream.specs.Packets.{samples_of}
 use Rattle.stream.proofs.Pieces.{onwards}
 use Rattle.feed_audio.specs.declared.packets.Measured.{Measured}
-use Rattle.feed_audio.specs.declared.packets.Measured.TheVariants.{All, Refused}
 use Rattle.feed_audio.specs.Code.{packed_of, unpacked, measures_in, Packable, in_front, and_later, measure_in, measured, Measures}
 use Rattle.feed_audio.proofs.Turns.{total-next}
 use Rattle.feed_lacing.proofs.Values.{next}
@@ -96,8 +95,8 @@ ahead_none streams bytes body = refl
 abbrev pub measure_of : Told Contents → Told Measure
 measure_of t = retold (λ (c : Contents). c.measure) t
 
-pub read_as : {r q : PacketRead} {t : Told Contents} → told_packet r ≡ t → r ≡ q → t ≡ told_packet q
-read_as e q = sym e ∙ ap told_packet q
+pub read_as : {r q : Result Contents Refusal} {t : Told Contents} → told r ≡ t → r ≡ q → t ≡ told q
+read_as e q = sym e ∙ ap told q
 
 -- a packet's measure fits one number
 pub packable : (b : Bytes) (n : ℕ) (c : Contents) → read_packet b n ≡ gives c → Packable c.measure
@@ -137,15 +136,15 @@ module _ {streams : ℕ} {lacing body : List ℕ} {goal : Told (List Measure)} {
   piece = take (start + (bytes + v) - start) (drop start body)
 
   module _ (h : v < 255) where
-    told : {x : Told Contents} → read_packet piece streams ≡ x
+    reads_on : {x : Told Contents} → read_packet piece streams ≡ x
         → in_front (measures_in (take count packed)) (and_later (measure_of x) (ahead streams 0 (drop (i + 1) lacing) (drop (start + (bytes + v)) body))) ≡ goal
-    told {x} r =
+    reads_on {x} r =
         let k : start + (bytes + v) - start ≡ bytes + v = omega arith in
         let r' : read_packet (take (bytes + v) (drop start body)) streams ≡ x = rw k at r in
         rw (← ap measure_of r', ← drop-drop (bytes + v) start body, ← ahead-ends streams bytes v (drop (i + 1) lacing) (drop start body) h, ← next lacing i v in_l e') g.tells
 
-    pub refused : {why : Refusal} (later : List ℕ) → read_packet piece streams ≡ refuses (number_of why) → Measures (Refused why) later goal
-    refused later r = record { tells = told r; sums = tt }
+    pub refused : {why : Refusal} (later : List ℕ) → read_packet piece streams ≡ refuses (number_of why) → Measures (Err why) later goal
+    refused later r = record { tells = reads_on r; sums = tt }
 
     pub ends : {c : Contents} → read_packet piece streams ≡ gives c → count < m
         → Measuring streams lacing body goal n m from (set packed count (packed_of c.measure)) (count + 1) (d + c.measure.samples)
@@ -156,7 +155,7 @@ module _ {streams : ℕ} {lacing body : List ℕ} {goal : Told (List Measure)} {
         let front : measures_in (take (count + 1) (set packed count (packed_of e))) ≡ measures_in (take count packed) ++ (e ∷ []) =
         stored packed count e (omega arith) fit in
         record {
-          tells = rw (front, ← in_front-again) (told r);
+          tells = rw (front, ← in_front-again) (reads_on r);
           adds = ap (λ (k : ℕ). k + e.samples) g.adds ∙ sym (samples_snoc (measures_in (take count packed)) e) ∙ ap samples_of (sym front);
           small = omega (arith, fit.samples);
           few = omega arith;
@@ -167,7 +166,7 @@ module _ {streams : ℕ} {lacing body : List ℕ} {goal : Told (List Measure)} {
 
 pub all-measured : {streams : ℕ} {lacing body : List ℕ} {goal : Told (List Measure)} {n m from : ℕ} {packed : List ℕ} {count d start bytes i : ℕ}
     → Measuring streams lacing body goal n m from packed count d start bytes i → length lacing ≤ i → count ≤ m → n ≤ 1 → length lacing ≤ 255
-    → Measures (All count d) packed goal
+    → Measures (Ok (record { count = count; samples = d })) packed goal
 all-measured {streams} {lacing} {body} {goal} {n} {m} {from} {packed} {count} {d} {start} {bytes} {i} g h few one page =
     let all : gives (measures_in (take count packed)) ≡ goal =
     ap gives (sym (append-nil (measures_in (take count packed)))) ∙ (rw (drop_of_length-le lacing h, ahead_none streams bytes (drop start body)) at g.tells) in
@@ -179,7 +178,7 @@ pub in_front-none : (t : Told (List Measure)) → in_front [] t ≡ t
 in_front-none (gives es) = refl
 in_front-none (refuses n) = refl
 
-pub none_yet : {r : Measured} {packed : List ℕ} {t : Told (List Measure)} → Measures r packed (in_front [] t) → Measures r packed t
+pub none_yet : {r : Result Measured Refusal} {packed : List ℕ} {t : Told (List Measure)} → Measures r packed (in_front [] t) → Measures r packed t
 none_yet {r} {packed} {t} m = rw in_front-none at m
 
 module _ (packed : List ℕ) (m : Measure) (h : 0 < length packed) (fit : Packable m) where
@@ -193,11 +192,11 @@ module _ (packed : List ℕ) (m : Measure) (h : 0 < length packed) (fit : Packab
 
 module _ (streams : ℕ) (b : Bytes) (bs : List Bytes) where
   pub first-refused : {why : Refusal} (packed : List ℕ) → read_packet b streams ≡ refuses (number_of why)
-      → Measures (Refused why) packed (measured streams (b ∷ bs))
+      → Measures (Err why) packed (measured streams (b ∷ bs))
   unfolding measured
   first-refused packed e = record { tells = sym (ap (λ (x : Told Contents). and_later (measure_of x) (measured streams bs)) e); sums = tt }
 
-  pub first-measured : {c : Contents} {r : Measured} {packed : List ℕ} (old : List ℕ) → read_packet b streams ≡ gives c → 0 < length old
+  pub first-measured : {c : Contents} {r : Result Measured Refusal} {packed : List ℕ} (old : List ℕ) → read_packet b streams ≡ gives c → 0 < length old
       → Measures r packed (in_front (measures_in (take 1 (set old 0 (packed_of c.measure)))) (measured streams bs))
       → Measures r packed (measured streams (b ∷ bs))
   unfolding measured

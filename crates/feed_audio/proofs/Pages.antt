@@ -1,4 +1,5 @@
 -- The two ways of a page past 11, from what the private functions promise. Assumes nothing.
+use Rattle.std.specs.Prelude.{Result, Ok, Err}
 use Prim.Native.Nat.{ℕ, ◌≤◌}
 use mathlib.Core.Path.{◌≡◌, sym, ap, ap₂, subst, ◌∙◌}
 use mathlib.Core.List.{List, []}
@@ -23,9 +24,7 @@ use Rattle.stream.specs.Readings.{readings}
 use Rattle.stream.specs.State.{Carried}
 use Rattle.stream.specs.Packets.{Seen, join, seen}
 use Rattle.stream.specs.Feed.{carried_in, view, tally_after, first_piece, appended, with_rest, carry_after, reader_of, no_counts, FedIs, Taken, told_page}
-use Rattle.stream.specs.declared.PageFed.TheVariants.{Accepted, Refused}
 use Rattle.feed_audio.specs.declared.packets.Piece.{Piece}
-use Rattle.feed_audio.specs.declared.times.Timed.TheVariants.{Packets}
 use Rattle.feed_audio.specs.Code.{first_from, count_of, measures_in, measured, packets_by, held_end, timed_by, Times, counts_by, rest_of, begun_by, still_by, fresh_by, next_core, on_past11, fed_past11, AnyCompletes, NoneCompletes}
 use Rattle.feed_audio.specs.Alike.{FilledAs, UnfilledAs}
 use Rattle.feed_audio.proofs.Splitting.{Ended, Open, ways}
@@ -35,7 +34,7 @@ use Rattle.feed_audio.proofs.Feeding.{in_audio, in_audio_lem, refused, accepted,
 use Rattle.feed_lacing.specs.Scan.{tail_by}
 
 -- what the place says of the trimmed samples
-pub place-trimmed : (k : Core) (h : PageHeader) {n d : ℕ} {w : Placed} {packed : List ℕ} {x : Told (List Measure)} → Times (Packets n d w) packed k h x
+pub place-trimmed : (k : Core) (h : PageHeader) {n d : ℕ} {w : Placed} {packed : List ℕ} {x : Told (List Measure)} → Times (Ok (record { count = n; samples = d; place = w })) packed k h x
     → w.trimmed ≡ trimmed_of (is_last_page h.flags) h.granule w.from d
 unfolding placed
 place-trimmed k h {n} {d} {w} m = rw m.runs.place
@@ -94,11 +93,11 @@ module _ (crc : Bytes → ℕ) (k : Core) (t : Tally) (h : PageHeader) (l body :
     told = measured (count_of k.streams) (packets_by k.pending first.values first.bytes l body now)
 
     pub completing_refused : {why : Refusal} {es ss ks fs : List ℕ} → UnfilledAs why k h told (with_carry lent []) es ss ks fs
-        → FedIs (fed_past11 (readings crc) (reader_of k t) lent (page_with h l body)) (told_page (Refused why)) (lent_of now es ss ks fs)
+        → FedIs (fed_past11 (readings crc) (reader_of k t) lent (page_with h l body)) (told_page (Err why)) (lent_of now es ss ks fs)
     unfolding whole rest
     completing_refused {why} {es} {ss} {ks} {fs} u =
         let tells = u.times.tells ∙ ap (λ (ps : List Bytes). timed_by (measured (count_of k.streams) ps) k h) packets_are ∙ judges crc k h few packets in
-        subst (λ (m : Lent). FedIs (fed_past11 (readings crc) (reader_of k t) lent (page_with h l body)) (told_page (Refused why)) (with_carry m now))
+        subst (λ (m : Lent). FedIs (fed_past11 (readings crc) (reader_of k t) lent (page_with h l body)) (told_page (Err why)) (with_carry m now))
         (sym u.stays)
         (late_by (completing packets (rest_of tail body)) s.fitting.audio sees
         (refused (readings crc) k t h l body lent packets (rest_of tail body) why tells appends))
@@ -107,7 +106,7 @@ module _ (crc : Bytes → ℕ) (k : Core) (t : Tally) (h : PageHeader) (l body :
         → FilledAs i d w skip k h t.skip told (with_carry lent []) es ss ks fs
         → later ≡ with_rest (rest_of left body) now → counts ≡ counts_by i d w t.skip (is_last_page h.flags) h.granule
         → after ≡ next_core k h (begun_by left) (At h.granule) → tally ≡ tally_after t skip counts
-        → FedIs (fed_past11 (readings crc) (reader_of k t) lent (page_with h l body)) (told_page (Accepted after tally counts)) (lent_of later es ss ks fs)
+        → FedIs (fed_past11 (readings crc) (reader_of k t) lent (page_with h l body)) (told_page (Ok (record { core = after; tally = tally; counts = counts }))) (lent_of later es ss ks fs)
     unfolding whole rest carry_after
     completing_accepted {i} {d} {skip} {w} {es} {ss} {ks} {fs} {later} {after} {tally} {counts} f c z a y =
         let m = f.times in
@@ -127,7 +126,7 @@ module _ (crc : Bytes → ℕ) (k : Core) (t : Tally) (h : PageHeader) (l body :
   pub piece-page : (bytes left : ℕ) {now later : List ℕ} {after : Core} → NoneCompletes k bytes left l body lent
       → now ≡ appended Audio carried (take bytes body) carry → later ≡ with_rest (rest_of (fresh_by k.pending left) body) now
       → after ≡ next_core k h (still_by k.pending left) k.position
-      → FedIs (fed_past11 (readings crc) (reader_of k t) lent (page_with h l body)) (told_page (Accepted after (tally_after t t.skip no_counts) no_counts)) (with_carry lent later)
+      → FedIs (fed_past11 (readings crc) (reader_of k t) lent (page_with h l body)) (told_page (Ok (record { core = after; tally = (tally_after t t.skip no_counts); counts = no_counts }))) (with_carry lent later)
   unfolding whole rest carry_after
   piece-page bytes left {now} {later} {after} s n c a =
       let o : Open 0 l (first_from 0 l) = (ways 0 l).1 s.undone in

@@ -1,4 +1,6 @@
 -- Packets with one measure: its list, their samples, and what listing them answers. Assumes nothing.
+use Rattle.std.specs.Prelude.{Result, Ok, Err}
+use Rattle.refusal.specs.declared.Refusal.{Refusal}
 use Prim.Native.Nat.{ℕ, zero, suc, ◌*◌, ◌≤◌}
 use mathlib.Core.Path.{◌≡◌, refl, sym, ap, subst, ◌∙◌}
 use mathlib.Core.List.{List, ◌∷◌}
@@ -17,9 +19,7 @@ use Rattle.stream.specs.declared.Core.{Core}
 use Rattle.stream.specs.Lent.{Lent}
 use Rattle.stream.specs.Packets.{samples_of}
 use Rattle.stream.specs.Feed.{entries}
-use Rattle.feed_audio.specs.declared.packets.Measured.TheVariants.{All}
 use Rattle.feed_audio.specs.declared.times.Timed.{Timed}
-use Rattle.feed_audio.specs.declared.times.Timed.TheVariants.{Packets}
 use Rattle.feed_audio.specs.Code.{packed_of, measures_in, Packable, Measures, Times, Room, Lists}
 use Rattle.feed_audio.specs.Alike.{single, Roomy, FilledAs}
 use Rattle.feed_audio.proofs.Measuring.{packs}
@@ -46,8 +46,8 @@ samples-replicate (suc n) m = rw (samples-replicate n m) (omega arith)
 -- ---- packets of one frame
 
 -- the answer being known
-pub times_as : {r s : Timed} {packed : List ℕ} {k : Core} {h : PageHeader} {t : Told (List Measure)} → r ≡ s → Times r packed k h t → Times s packed k h t
-times_as {packed = packed} {k = k} {h = h} {t = t} e m = subst (λ (x : Timed). Times x packed k h t) e m
+pub times_as : {r s : Result Timed Refusal} {packed : List ℕ} {k : Core} {h : PageHeader} {t : Told (List Measure)} → r ≡ s → Times r packed k h t → Times s packed k h t
+times_as {packed = packed} {k = k} {h = h} {t = t} e m = subst (λ (x : Result Timed Refusal). Times x packed k h t) e m
 
 pub single_packs : (toc : ℕ) → Packable (single toc)
 single_packs toc = record { samples = le_trans (frame-length toc).most (lit≤ tt); frames = lit≤ tt }
@@ -65,7 +65,7 @@ module _ (count toc : ℕ) (few : count ≤ 255) where
   measures_are : measures_in (take count packed) ≡ replicate count (single toc)
   measures_are = ap measures_in (take-replicate count v) ∙ measures-replicate count (single toc) (single_packs toc)
 
-  pub measures-alike : {d : ℕ} → d ≡ count * frame_samples toc → Measures (All count d) packed (gives (replicate count (single toc)))
+  pub measures-alike : {d : ℕ} → d ≡ count * frame_samples toc → Measures (Ok (record { count = count; samples = d })) packed (gives (replicate count (single toc)))
   measures-alike {d} e = record {
     tells = ap gives measures_are;
     sums = record {
@@ -75,7 +75,7 @@ module _ (count toc : ℕ) (few : count ≤ 255) where
     };
   }
 
-  module _ {k : Core} {h : PageHeader} {t : Told (List Measure)} {n d : ℕ} {w : Placed} (m : Times (Packets n d w) packed k h t) where
+  module _ {k : Core} {h : PageHeader} {t : Told (List Measure)} {n d : ℕ} {w : Placed} (m : Times (Ok (record { count = n; samples = d; place = w })) packed k h t) where
     fewer : n ≤ count
     fewer = omega (arith, m.runs.few, length-replicate count v)
 

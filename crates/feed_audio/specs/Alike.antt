@@ -1,5 +1,5 @@
 -- Pages whose packets have one frame and one first byte, and what listing a page answers, in the code's words. Assumes nothing.
-use Rattle.std.specs.Prelude.{ℕ, ◌≤◌, ◌≡◌, Bool, ◌&&◌, List, eqb, length, get_or, take, replicate}
+use Rattle.std.specs.Prelude.{Option, Some, None, Result, Ok, Err, ℕ, ◌≤◌, ◌≡◌, Bool, ◌&&◌, List, eqb, length, get_or, take, replicate}
 use Rattle.octets.specs.Octets.{Bytes, total}
 use Rattle.refusal.specs.declared.Refusal.{Refusal}
 use Rattle.refusal.specs.Told.{Told, gives}
@@ -17,10 +17,7 @@ use Rattle.stream.specs.Lent.{Lent, lent_of}
 use Rattle.stream.specs.Packets.{samples_of}
 use Rattle.stream.specs.Feed.{entries}
 use Rattle.feed_audio.specs.declared.packets.Same.{Same}
-use Rattle.feed_audio.specs.declared.packets.Same.TheVariants.{Each, Differ}
-use Rattle.feed_audio.specs.declared.times.Timed.TheVariants.{Packets, Refused as Untimed}
 use Rattle.feed_audio.specs.declared.lists.Listed.{Listed}
-use Rattle.feed_audio.specs.declared.lists.Listed.TheVariants.{Filled, Refused}
 use Rattle.feed_audio.specs.Code.{measures_in, measured, Times, Lists}
 
 -- ---- packets that are alike
@@ -43,9 +40,9 @@ pub record Singles (n toc : ℕ) (l body : Bytes) : Type 0 where
   pub few : n ≤ 255
   pub reads : measured 1 (whole_from 0 l body) ≡ gives (replicate n (single toc))
 
-abbrev pub Alike : Same → Bytes → Bytes → Type 0
-Alike (Each n toc) l body = Singles n toc l body
-Alike Differ l body = Unit {0}
+abbrev pub Alike : Option Same → Bytes → Bytes → Type 0
+Alike (Some r) l body = Singles r.count r.toc l body
+Alike None l body = Unit {0}
 
 -- on a page of a reader of so many streams, by what is pending
 pub record SinglesOn (n toc : ℕ) (pending : Pending) (streams : ℕ) (l body : Bytes) : Type 0 where
@@ -53,9 +50,9 @@ pub record SinglesOn (n toc : ℕ) (pending : Pending) (streams : ℕ) (l body :
   pub one : streams ≡ 1
   pub singles : Singles n toc l body
 
-abbrev pub AlikeOn : Same → Pending → ℕ → Bytes → Bytes → Type 0
-AlikeOn (Each n toc) pending streams l body = SinglesOn n toc pending streams l body
-AlikeOn Differ pending streams l body = Unit {0}
+abbrev pub AlikeOn : Option Same → Pending → ℕ → Bytes → Bytes → Type 0
+AlikeOn (Some r) pending streams l body = SinglesOn r.count r.toc pending streams l body
+AlikeOn None pending streams l body = Unit {0}
 
 -- ---- the lists of a page, the packets being measured as t
 
@@ -70,7 +67,7 @@ pub record Roomy (es ss ks fs : List ℕ) : Type 0 where
 pub record FilledAs (n d : ℕ) (w : Placed) (left : ℕ) (k : Core) (h : PageHeader) (skip : ℕ) (t : Told (List Measure))
     (old : Lent) (ends lengths kept frames : List ℕ) : Type 0 where
   pub packed : List ℕ
-  pub times : Times (Packets n d w) packed k h t
+  pub times : Times (Ok (record { count = n; samples = d; place = w })) packed k h t
   pub lists : Lists left skip (samples_of (measures_in (take n packed)))
       (entries skip (is_last_page h.flags) h.granule w.from (measures_in (take n packed))) old ends lengths kept frames
 
@@ -78,9 +75,9 @@ pub record FilledAs (n d : ℕ) (w : Placed) (left : ℕ) (k : Core) (h : PageHe
 pub record UnfilledAs (why : Refusal) (k : Core) (h : PageHeader) (t : Told (List Measure))
     (old : Lent) (ends lengths kept frames : List ℕ) : Type 0 where
   pub packed : List ℕ
-  pub times : Times (Untimed why) packed k h t
+  pub times : Times (Err why) packed k h t
   pub stays : lent_of old.carry ends lengths kept frames ≡ old
 
-abbrev pub ListsPage : Listed → Core → PageHeader → ℕ → Told (List Measure) → Lent → List ℕ → List ℕ → List ℕ → List ℕ → Type 0
-ListsPage (Filled n d w left) k h skip t old es ss ks fs = FilledAs n d w left k h skip t old es ss ks fs
-ListsPage (Refused why) k h skip t old es ss ks fs = UnfilledAs why k h t old es ss ks fs
+abbrev pub ListsPage : Result Listed Refusal → Core → PageHeader → ℕ → Told (List Measure) → Lent → List ℕ → List ℕ → List ℕ → List ℕ → Type 0
+ListsPage (Ok r) k h skip t old es ss ks fs = FilledAs r.count r.samples r.place r.left k h skip t old es ss ks fs
+ListsPage (Err why) k h skip t old es ss ks fs = UnfilledAs why k h t old es ss ks fs

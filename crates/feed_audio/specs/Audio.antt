@@ -1,6 +1,8 @@
 -- Feeding one audio page to a reader that expects it, after refusals 1 to 8 (RULES.md, refusals 9, 11 and 15 to 19). Where the
 -- arguments are no such page, or lack the room, nothing is told and all stays. Assumes nothing.
-use Rattle.std.specs.Prelude.{Bool, not, ◌&&◌, List, ◌++◌}
+use Rattle.std.specs.Prelude.{Option as CodeOption, Some, None, Result, Ok, Err, Bool, not, ◌&&◌, List, ◌++◌}
+use Rattle.refusal.specs.declared.Refusal.{Refusal}
+use Rattle.stream.specs.declared.PageFed.{PageFed}
 use Rattle.std.proofs.Math.Option.{Option, none, some}
 use Rattle.refusal.specs.Checks.{Check, first_of}
 use Rattle.refusal.specs.Told.{Told}
@@ -13,8 +15,6 @@ use Rattle.stream.specs.Packets.{Seen, seen, audio_packets}
 use Rattle.stream.specs.Rules.{lacing_checks, packet_checks, time_checks}
 use Rattle.stream.specs.Feed.{Reader, view, Taken, Fed, FedWhen, fed_by, told_page}
 use Rattle.stream.specs.Lent.{Lent, is_short}
-use Rattle.feed_audio.specs.declared.AudioFed.{AudioFed}
-use Rattle.feed_audio.specs.declared.AudioFed.TheVariants.{Page as OfPage, NotAudio}
 
 -- ---- the rules
 
@@ -36,10 +36,10 @@ unfoldable pub is_audio_page : Phase → Page → Lent → Bool
 is_audio_page ph p m = is_audio ph && (not (is_short m) && is_body p.lacing p.body)
 
 -- what the answer tells
-abbrev pub told_audio : AudioFed → Option (Told Taken)
-told_audio (OfPage f) = some (told_page f)
-told_audio NotAudio = none
+abbrev pub told_audio : CodeOption (Result PageFed Refusal) → Option (Told Taken)
+told_audio (Some f) = some (told_page f)
+told_audio None = none
 
-abbrev pub FeedsAudio : Readings → Reader → Page → Lent → AudioFed → Lent → Type 0
+abbrev pub FeedsAudio : Readings → Reader → Page → Lent → CodeOption (Result PageFed Refusal) → Lent → Type 0
 FeedsAudio R r p before answer after =
     FedWhen (is_audio_page r.core.phase p before) (audio_on R r before p) (told_audio answer) before after

@@ -1,6 +1,7 @@
 -- What the private functions answer and ask, in the code's words; the files of `proofs/` have the laws to the rules. Assumes
 -- nothing.
-use Rattle.std.specs.Prelude.{ℕ, ◌+◌, ◌*◌, ◌-◌, ◌/◌, ◌%◌, ◌≤◌, ◌<◌, ◌^◌, ◌≡◌, Bool, true, false, List, [], ◌∷◌, ◌++◌, ltb, eqb, length, take, drop}
+use Rattle.std.specs.Prelude.{Result, Ok, Err, ℕ, ◌+◌, ◌*◌, ◌-◌, ◌/◌, ◌%◌, ◌≤◌, ◌<◌, ◌^◌, ◌≡◌, Bool, true, false, List, [], ◌∷◌, ◌++◌, ltb, eqb, length, take, drop}
+use Rattle.refusal.specs.declared.Refusal.{Refusal}
 use Rattle.std.proofs.Math.Option.{Option, none, some}
 use Rattle.octets.specs.Pick.{pick}
 use Rattle.octets.specs.Octets.{Bytes, total}
@@ -32,9 +33,7 @@ use Rattle.stream.specs.Rules.{packet_checks, time_checks}
 use Rattle.stream.specs.Feed.{Reader, view, carried_in, Entry, with_entries, Fed, fed_by}
 use Rattle.feed_audio.specs.declared.packets.Piece.{Piece}
 use Rattle.feed_audio.specs.declared.packets.Measured.{Measured}
-use Rattle.feed_audio.specs.declared.packets.Measured.TheVariants.{All, Refused}
 use Rattle.feed_audio.specs.declared.times.Timed.{Timed}
-use Rattle.feed_audio.specs.declared.times.Timed.TheVariants.{Packets, Refused as Untimed}
 use Rattle.feed_lacing.specs.Scan.{tail_by}
 use Rattle.feed_next.specs.Next.{core_after}
 
@@ -90,9 +89,13 @@ unfoldable pub measured : ℕ → List Bytes → Told (List Measure)
 measured n [] = gives []
 measured n (b ∷ bs) = and_later (measure_in b n) (measured n bs)
 
-abbrev pub told_measured : Measured → List ℕ → Told (List Measure)
-told_measured (All n d) packed = gives (measures_in (take n packed))
-told_measured (Refused r) packed = refuses (number_of r)
+-- n packets of d samples in all
+abbrev pub all_of : ℕ → ℕ → Result Measured Refusal
+all_of n d = Ok (record { count = n; samples = d })
+
+abbrev pub told_measured : Result Measured Refusal → List ℕ → Told (List Measure)
+told_measured (Ok r) packed = gives (measures_in (take r.count packed))
+told_measured (Err r) packed = refuses (number_of r)
 
 -- the samples of the first n packets are d
 pub record Sums (n d : ℕ) (packed : List ℕ) : Type 0 where
@@ -100,11 +103,11 @@ pub record Sums (n d : ℕ) (packed : List ℕ) : Type 0 where
   pub few : n ≤ length packed
   pub small : d ≤ samples_max * 256
 
-abbrev pub SumsIn : Measured → List ℕ → Type 0
-SumsIn (All n d) packed = Sums n d packed
-SumsIn (Refused r) packed = Unit {0}
+abbrev pub SumsIn : Result Measured Refusal → List ℕ → Type 0
+SumsIn (Ok r) packed = Sums r.count r.samples packed
+SumsIn (Err r) packed = Unit {0}
 
-pub record Measures (r : Measured) (packed : List ℕ) (t : Told (List Measure)) : Type 0 where
+pub record Measures (r : Result Measured Refusal) (packed : List ℕ) (t : Told (List Measure)) : Type 0 where
   pub tells : told_measured r packed ≡ t
   pub sums : SumsIn r packed
 
@@ -148,9 +151,9 @@ abbrev pub timed_by : Told (List Measure) → Core → PageHeader → Told Place
 timed_by (gives ms) k h = judge k.position k.preskip h.granule (samples_of ms) (is_last_page h.flags)
 timed_by (refuses n) k h = refuses n
 
-abbrev pub told_timed : Timed → Told Placed
-told_timed (Packets n d w) = gives w
-told_timed (Untimed r) = refuses (number_of r)
+abbrev pub told_timed : Result Timed Refusal → Told Placed
+told_timed (Ok r) = gives r.place
+told_timed (Err r) = refuses (number_of r)
 
 -- accepted: the measures are at the start of the list, and the stamps fit
 pub record Runs (n d : ℕ) (w : Placed) (packed : List ℕ) (k : Core) (h : PageHeader) (t : Told (List Measure)) : Type 0 where
@@ -160,11 +163,11 @@ pub record Runs (n d : ℕ) (w : Placed) (packed : List ℕ) (k : Core) (h : Pag
   pub place : w ≡ placed k.position (is_last_page h.flags) h.granule d
   pub fits : w.from + samples_of (measures_in (take n packed)) < 2 ^ 64
 
-abbrev pub RunsIn : Timed → List ℕ → Core → PageHeader → Told (List Measure) → Type 0
-RunsIn (Packets n d w) packed k h t = Runs n d w packed k h t
-RunsIn (Untimed r) packed k h t = Unit {0}
+abbrev pub RunsIn : Result Timed Refusal → List ℕ → Core → PageHeader → Told (List Measure) → Type 0
+RunsIn (Ok r) packed k h t = Runs r.count r.samples r.place packed k h t
+RunsIn (Err r) packed k h t = Unit {0}
 
-pub record Times (r : Timed) (packed : List ℕ) (k : Core) (h : PageHeader) (t : Told (List Measure)) : Type 0 where
+pub record Times (r : Result Timed Refusal) (packed : List ℕ) (k : Core) (h : PageHeader) (t : Told (List Measure)) : Type 0 where
   pub tells : told_timed r ≡ timed_by t k h
   pub runs : RunsIn r packed k h t
 

@@ -13,9 +13,7 @@ ghost use Rattle.feed_audio.specs.Audio.{audio_on, FeedsAudio};
 ghost use Rattle.feed_audio.specs.Code.{fresh_by, fed_past11, Fitting, AnyCompletes, NoneCompletes};
 ghost use Rattle.page_lacing.specs.Lacing.{is_body};
 
-use feed_lacing::Scan;
 use granule::Position;
-use lists::Listed;
 use packets::Piece;
 use page_layout::PageHeader;
 use refusal::Refusal;
@@ -25,14 +23,6 @@ mod carried;
 mod lists;
 mod packets;
 mod times;
-
-#[derive(Clone, Copy)]
-pub enum AudioFed {
-    // what feeding an audio page answers
-    Page(PageFed),
-    // these arguments are no audio page with room
-    NotAudio,
-}
 
 // Feeds a page where an audio packet completes.
 fn feed_completing(
@@ -48,7 +38,7 @@ fn feed_completing(
     lengths: &mut [u64],
     kept: &mut [u64],
     frames: &mut [u64],
-) -> PageFed
+) -> Result<PageFed, Refusal>
     requires { AnyCompletes core h first rest lacing.now body.now
         (lent_of carry.old ends.old lengths.old kept.old frames.old) }
     ensures { (crc : Bytes → ℕ) →
@@ -58,18 +48,25 @@ fn feed_completing(
     let pending = core.pending;
     let skip = tally.skip;
     carried::append(pending, first.bytes, body, carry);
-    match lists::list_page(
+    let listed = lists::list_page(
         core, h, first, skip, lacing, body, carry, ends, lengths, kept, frames,
-    ) {
-        Listed::Refused(why) => PageFed::Refused(why),
-        Listed::Filled(count, d, place, left) => {
-            let last = page_flags::is_last_page(h.flags);
-            carried::keep_rest(rest, body, carry);
-            let counts = times::counts_of(count, d, place, skip, last, h.granule);
-            let next = carried::next_core(core, h, carried::begun(rest), Position::At(h.granule));
-            PageFed::Accepted(next, feed_next::next_tally(tally, left, counts), counts)
-        }
-    }
+    )?;
+    let last = page_flags::is_last_page(h.flags);
+    carried::keep_rest(rest, body, carry);
+    let counts = times::counts_of(
+        listed.count,
+        listed.samples,
+        listed.place,
+        skip,
+        last,
+        h.granule,
+    );
+    let next = carried::next_core(core, h, carried::begun(rest), Position::At(h.granule));
+    Ok(PageFed {
+        core: next,
+        tally: feed_next::next_tally(tally, listed.left, counts),
+        counts,
+    })
 }
 
 // Feeds a page where no packet completes; its piece has `bytes` bytes.
@@ -81,7 +78,7 @@ fn feed_piece(
     rest: usize,
     body: &[u8],
     carry: &mut [u8],
-) -> PageFed
+) -> Result<PageFed, Refusal>
     requires piece { bytes ≤ length body.now }
     requires fresh { fresh_by core.pending rest ≤ length body.now }
     ensures { (crc : Bytes → ℕ) (l : List ℕ) (m : Lent) →
@@ -95,11 +92,11 @@ fn feed_piece(
     carried::keep_rest(carried::fresh(pending, rest), body, carry);
     let next = carried::next_core(core, h, carried::still_pending(pending, rest), position);
     let counts = feed_next::no_counts();
-    PageFed::Accepted(
-        next,
-        feed_next::next_tally(tally, tally.skip, counts),
+    Ok(PageFed {
+        core: next,
+        tally: feed_next::next_tally(tally, tally.skip, counts),
         counts,
-    )
+    })
 }
 
 // Feeds a page that fits: 9, 11, and what follows.
@@ -114,7 +111,7 @@ fn feed_page(
     lengths: &mut [u64],
     kept: &mut [u64],
     frames: &mut [u64],
-) -> PageFed
+) -> Result<PageFed, Refusal>
     requires { Fitting core lacing.now body.now
         (lent_of carry.old ends.old lengths.old kept.old frames.old) }
     ensures { (crc : Bytes → ℕ) →
@@ -123,20 +120,18 @@ fn feed_page(
 {
     let pending = core.pending;
     let first = packets::first_piece(lacing);
-    match feed_lacing::scan_page(pending, lacing) {
-        Scan::TooLong => PageFed::Refused(Refusal::PacketTooLong),
-        Scan::Rest(rest) => {
-            if granule::wrong_granule(granule::GRANULE_MAX, first.ends, h.granule) {
-                return PageFed::Refused(Refusal::WrongGranule);
-            }
-            if first.ends {
-                return feed_completing(
-                    core, tally, h, first, rest, lacing, body, carry, ends, lengths, kept, frames,
-                );
-            }
-            feed_piece(core, tally, h, first.bytes, rest, body, carry)
-        }
+    let Some(rest) = feed_lacing::scan_page(pending, lacing) else {
+        return Err(Refusal::PacketTooLong);
+    };
+    if granule::wrong_granule(granule::GRANULE_MAX, first.ends, h.granule) {
+        return Err(Refusal::WrongGranule);
     }
+    if first.ends {
+        return feed_completing(
+            core, tally, h, first, rest, lacing, body, carry, ends, lengths, kept, frames,
+        );
+    }
+    feed_piece(core, tally, h, first.bytes, rest, body, carry)
 }
 
 fn is_fed(phase: Phase, short: bool, lacing: &[u8], body: &[u8]) -> bool
@@ -168,7 +163,7 @@ pub fn feed_audio(
     lengths: &mut [u64],
     kept: &mut [u64],
     frames: &mut [u64],
-) -> AudioFed
+) -> Option<Result<PageFed, Refusal>>
     ensures { (crc : Bytes → ℕ) →
         FeedsAudio (readings crc) (reader_of core tally) (page_with h lacing.now body.now)
         (at_entry carry ends lengths kept frames) result (at_exit carry ends lengths kept frames) }
@@ -182,9 +177,9 @@ pub fn feed_audio(
         frames.len(),
     );
     if !is_fed(phase, short, lacing, body) {
-        return AudioFed::NotAudio;
+        return None;
     }
-    AudioFed::Page(feed_page(
+    Some(feed_page(
         core, tally, h, lacing, body, carry, ends, lengths, kept, frames,
     ))
 }

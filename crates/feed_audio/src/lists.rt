@@ -6,8 +6,7 @@ ghost use Rattle.stream.specs.Lent.{lent_of};
 ghost use Rattle.feed_audio.specs.Code.{count_of, measured, packets_by, Measurable};
 ghost use Rattle.feed_audio.specs.Alike.{single, Roomy, ListsPage};
 
-use super::packets::{Piece, Same};
-use super::times::Timed;
+use super::packets::Piece;
 use super::{packets, times};
 use granule::Placed;
 use packet_reader::Measure;
@@ -15,12 +14,13 @@ use page_layout::PageHeader;
 use refusal::Refusal;
 use stream::Core;
 
+// How many packets there are, the sum of their lengths, where they lie, and how many samples are then still to skip.
 #[derive(Clone, Copy)]
-pub(crate) enum Listed {
-    // how many packets there are, the sum of their lengths, where they lie, and how many samples are then still to skip
-    Filled(usize, u32, Placed, u16),
-    // 15 to 19
-    Refused(Refusal),
+pub(crate) struct Listed {
+    pub(crate) count: usize,
+    pub(crate) samples: u32,
+    pub(crate) place: Placed,
+    pub(crate) left: u16,
 }
 
 // Lists `count` packets of one frame that have the first byte `toc`.
@@ -34,7 +34,7 @@ fn list_alike(
     lengths: &mut [u64],
     kept: &mut [u64],
     frames: &mut [u64],
-) -> Listed
+) -> Result<Listed, Refusal>
     requires few { count ≤ 255 }
     requires room { Roomy ends.old lengths.old kept.old frames.old }
     requires small { h.granule < 2 ^ 63 }
@@ -44,17 +44,28 @@ fn list_alike(
 {
     let samples = packet_toc::frame_samples(toc);
     let d = count as u32 * samples;
-    match times::judge_page(core, h, count, d) {
-        Timed::Refused(why) => Listed::Refused(why),
-        Timed::Packets(n, sum, place) => {
-            let last = page_flags::is_last_page(h.flags);
-            let m = packets::packed(Measure { samples, frames: 1 });
-            let left = times::list_same(
-                m, n, place.from, skip, last, h.granule, ends, lengths, kept, frames,
-            );
-            Listed::Filled(n, sum, place, left)
-        }
-    }
+    let timed = times::judge_page(core, h, count, d)?;
+    let place = timed.place;
+    let last = page_flags::is_last_page(h.flags);
+    let m = packets::packed(Measure { samples, frames: 1 });
+    let left = times::list_same(
+        m,
+        timed.count,
+        place.from,
+        skip,
+        last,
+        h.granule,
+        ends,
+        lengths,
+        kept,
+        frames,
+    );
+    Ok(Listed {
+        count: timed.count,
+        samples: timed.samples,
+        place,
+        left,
+    })
 }
 
 // Measures the packets of a page one by one, and lists them.
@@ -70,7 +81,7 @@ fn list_measured(
     lengths: &mut [u64],
     kept: &mut [u64],
     frames: &mut [u64],
-) -> Listed
+) -> Result<Listed, Refusal>
     requires measurable { Measurable core.pending first.values first.bytes lacing.now body.now carry.now ends.old }
     requires room { Roomy ends.old lengths.old kept.old frames.old }
     requires small { h.granule < 2 ^ 63 }
@@ -81,16 +92,27 @@ fn list_measured(
         ends.new lengths.new kept.new frames.new }
 {
     let mut measures = [0u32; 255];
-    match times::time_page(core, h, first, lacing, body, carry, &mut measures) {
-        Timed::Refused(why) => Listed::Refused(why),
-        Timed::Packets(count, d, place) => {
-            let last = page_flags::is_last_page(h.flags);
-            let left = times::list_packets(
-                &measures, count, place.from, skip, last, h.granule, ends, lengths, kept, frames,
-            );
-            Listed::Filled(count, d, place, left)
-        }
-    }
+    let timed = times::time_page(core, h, first, lacing, body, carry, &mut measures)?;
+    let place = timed.place;
+    let last = page_flags::is_last_page(h.flags);
+    let left = times::list_packets(
+        &measures,
+        timed.count,
+        place.from,
+        skip,
+        last,
+        h.granule,
+        ends,
+        lengths,
+        kept,
+        frames,
+    );
+    Ok(Listed {
+        count: timed.count,
+        samples: timed.samples,
+        place,
+        left,
+    })
 }
 
 // Lists the packets that complete on a page whose first piece ends; a held packet is whole in `carry`. Under a refusal the lists
@@ -107,7 +129,7 @@ pub(crate) fn list_page(
     lengths: &mut [u64],
     kept: &mut [u64],
     frames: &mut [u64],
-) -> Listed
+) -> Result<Listed, Refusal>
     requires measurable { Measurable core.pending first.values first.bytes lacing.now body.now carry.now ends.old }
     requires room { Roomy ends.old lengths.old kept.old frames.old }
     requires small { h.granule < 2 ^ 63 }
@@ -120,10 +142,10 @@ pub(crate) fn list_page(
     let pending = core.pending;
     let streams = packets::stream_count(core.streams);
     match packets::same_on(pending, streams, lacing, body) {
-        Same::Each(count, toc) => {
-            list_alike(core, h, count, toc, skip, ends, lengths, kept, frames)
-        }
-        Same::Differ => list_measured(
+        Some(same) => list_alike(
+            core, h, same.count, same.toc, skip, ends, lengths, kept, frames,
+        ),
+        None => list_measured(
             core, h, first, skip, lacing, body, carry, ends, lengths, kept, frames,
         ),
     }

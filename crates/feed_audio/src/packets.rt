@@ -5,7 +5,7 @@ ghost use Rattle.feed_audio.specs.Code.{first_from, count_of, Packable, packed_o
 ghost use Rattle.feed_audio.specs.Code.{Measures, Ready, packets_by, Measurable};
 ghost use Rattle.feed_audio.specs.Alike.{is_single_of, Cut, Alike, AlikeOn};
 
-use packet_reader::{Measure, PacketRead};
+use packet_reader::Measure;
 use refusal::Refusal;
 use stream::Pending;
 
@@ -22,40 +22,36 @@ pub(crate) fn first_piece(lacing: &[u8]) -> Piece
     ensures { result ≡ first_from 0 lacing.now }
 {
     let mut bytes: usize = 0;
-    let mut i: usize = 0;
-    while i < lacing.len() {
-        let v = octets::wide(lacing[i]);
+    for (i, x) in lacing.iter().enumerate() {
+        let v = octets::wide(*x);
         bytes += v;
-        i += 1;
         if v < 255 {
             return Piece {
-                values: i,
+                values: i + 1,
                 bytes,
                 ends: true,
             };
         }
     }
     Piece {
-        values: i,
+        values: lacing.len(),
         bytes,
         ends: false,
     }
 }
 
+// How many packets there are, and the sum of their lengths in samples.
 #[derive(Clone, Copy)]
-pub(crate) enum Measured {
-    // how many packets there are, and the sum of their lengths in samples
-    All(usize, u32),
-    // 15 or 16
-    Refused(Refusal),
+pub(crate) struct Measured {
+    pub(crate) count: usize,
+    pub(crate) samples: u32,
 }
 
+// How many packets complete: each has one frame, no length coded, and this first byte.
 #[derive(Clone, Copy)]
-pub(crate) enum Same {
-    // how many packets complete: each has one frame, no length coded, and this first byte
-    Each(usize, u8),
-    // they may differ
-    Differ,
+pub(crate) struct Same {
+    pub(crate) count: usize,
+    pub(crate) toc: u8,
 }
 
 // A measure in one number, so that those of a page are one array: no packet has 64 frames.
@@ -84,7 +80,7 @@ fn measure(
     measures: &mut [u32],
     n: usize,
     d: u32,
-) -> Measured
+) -> Result<Measured, Refusal>
     requires { Ready from at n d lacing.now body.now measures.old }
     ensures { Measures result measures.new (in_front (measures_in (take n measures.old))
         (measured streams (whole_from 0 (drop from lacing.now) (drop at body.now)))) }
@@ -93,27 +89,24 @@ fn measure(
     let mut sum = d;
     let mut start = at;
     let mut bytes: usize = 0;
-    let mut i = from;
-    while i < lacing.len() {
+    for i in from..lacing.len() {
         let v = octets::wide(lacing[i]);
         bytes += v;
-        i += 1;
         if v < 255 {
             let end = start + bytes;
-            match packet_reader::read_packet_quick(&body[start..end], streams) {
-                PacketRead::Refused(why) => return Measured::Refused(why),
-                PacketRead::Legal(contents) => {
-                    let m = contents.measure;
-                    measures[count] = packed(m);
-                    count += 1;
-                    sum += m.samples;
-                }
-            }
+            let contents = packet_reader::read_packet_quick(&body[start..end], streams)?;
+            let m = contents.measure;
+            measures[count] = packed(m);
+            count += 1;
+            sum += m.samples;
             start = end;
             bytes = 0;
         }
     }
-    Measured::All(count, sum)
+    Ok(Measured {
+        count,
+        samples: sum,
+    })
 }
 
 // Measures the packets of a page whose first piece, of `values` values and `bytes` bytes, ends. A held packet is whole in
@@ -127,7 +120,7 @@ pub(crate) fn measure_page(
     carry: &[u8],
     streams: u64,
     measures: &mut [u32],
-) -> Measured
+) -> Result<Measured, Refusal>
     requires { Measurable pending values bytes lacing.now body.now carry.now measures.old }
     ensures { Measures result measures.new (measured streams
         (packets_by pending values bytes lacing.now body.now carry.now)) }
@@ -137,14 +130,10 @@ pub(crate) fn measure_page(
         Pending::Dropped => measure(lacing, body, values, bytes, streams, measures, 0, 0),
         Pending::Held(n) => {
             let whole = n + bytes;
-            match packet_reader::read_packet(&carry[..whole], streams) {
-                PacketRead::Refused(why) => Measured::Refused(why),
-                PacketRead::Legal(contents) => {
-                    let m = contents.measure;
-                    measures[0] = packed(m);
-                    measure(lacing, body, values, bytes, streams, measures, 1, m.samples)
-                }
-            }
+            let contents = packet_reader::read_packet(&carry[..whole], streams)?;
+            let m = contents.measure;
+            measures[0] = packed(m);
+            measure(lacing, body, values, bytes, streams, measures, 1, m.samples)
         }
     }
 }
@@ -157,7 +146,7 @@ fn is_single_of(bytes: &[u8], toc: u8) -> bool
 }
 
 // Whether the packets that complete in `body`, from its start on, all have one frame, no length coded, and one first byte.
-fn same_packets(lacing: &[u8], body: &[u8]) -> Same
+fn same_packets(lacing: &[u8], body: &[u8]) -> Option<Same>
     requires { Cut lacing.now body.now }
     ensures { Alike result lacing.now body.now }
 {
@@ -165,36 +154,34 @@ fn same_packets(lacing: &[u8], body: &[u8]) -> Same
     let mut count: usize = 0;
     let mut start: usize = 0;
     let mut bytes: usize = 0;
-    let mut i: usize = 0;
-    while i < lacing.len() {
-        let v = octets::wide(lacing[i]);
+    for x in lacing {
+        let v = octets::wide(*x);
         bytes += v;
-        i += 1;
         if v < 255 {
             let end = start + bytes;
             if !is_single_of(&body[start..end], toc) {
-                return Same::Differ;
+                return None;
             }
             start = end;
             count += 1;
             bytes = 0;
         }
     }
-    Same::Each(count, toc)
+    Some(Same { count, toc })
 }
 
 // The same of a page's packets, by what is pending. A reader of several streams is told that they differ.
-pub(crate) fn same_on(pending: Pending, streams: u64, lacing: &[u8], body: &[u8]) -> Same
+pub(crate) fn same_on(pending: Pending, streams: u64, lacing: &[u8], body: &[u8]) -> Option<Same>
     requires { Cut lacing.now body.now }
     ensures { AlikeOn result pending streams lacing.now body.now }
 {
     let several = streams != 1;
     if several {
-        return Same::Differ;
+        return None;
     }
     match pending {
         Pending::Nothing => same_packets(lacing, body),
-        Pending::Dropped => Same::Differ,
-        Pending::Held(n) => Same::Differ,
+        Pending::Dropped => None,
+        Pending::Held(n) => None,
     }
 }

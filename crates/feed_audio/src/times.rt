@@ -7,36 +7,37 @@ ghost use Rattle.stream.specs.Lent.{lent_of};
 ghost use Rattle.stream.specs.Packets.{samples_of};
 ghost use Rattle.stream.specs.Feed.{entries};
 ghost use Rattle.feed_audio.specs.Code.{count_of, measures_in, measured, packets_by, Measurable, Times, Room, Lists};
-ghost use Rattle.feed_audio.specs.Code.{Measures, Placeable, counts_by};
-ghost use Rattle.feed_audio.specs.declared.packets.Measured.TheVariants.{All};
+ghost use Rattle.feed_audio.specs.Code.{all_of, Measures, Placeable, counts_by};
 
 use super::packets;
-use super::packets::{Measured, Piece};
-use granule::{Judged, Placed};
+use super::packets::Piece;
+use granule::Placed;
 use page_layout::PageHeader;
 use refusal::Refusal;
 use stream::{Core, Counts};
 
+// How many packets there are, the sum of their lengths, and where they lie.
 #[derive(Clone, Copy)]
-pub(crate) enum Timed {
-    // how many packets there are, the sum of their lengths, and where they lie
-    Packets(usize, u32, Placed),
-    // 15 to 19
-    Refused(Refusal),
+pub(crate) struct Timed {
+    pub(crate) count: usize,
+    pub(crate) samples: u32,
+    pub(crate) place: Placed,
 }
 
 // Judges a page by `count` packets of `d` samples in all: where they lie, or 17 to 19.
-pub(crate) fn judge_page(core: Core, h: PageHeader, count: usize, d: u32) -> Timed
+pub(crate) fn judge_page(core: Core, h: PageHeader, count: usize, d: u32) -> Result<Timed, Refusal>
     requires { h.granule < 2 ^ 63 }
     ensures { (packed : List ℕ) (t : Told (List Measure)) →
-        Measures (All count d) packed t → Times result packed core h t }
+        Measures (all_of count d) packed t → Times result packed core h t }
 {
     let position = core.position;
     let last = page_flags::is_last_page(h.flags);
-    match granule::judge(position, core.preskip, h.granule, d, last) {
-        Judged::Refused(why) => Timed::Refused(why),
-        Judged::Placed(place) => Timed::Packets(count, d, place),
-    }
+    let place = granule::judge(position, core.preskip, h.granule, d, last)?;
+    Ok(Timed {
+        count,
+        samples: d,
+        place,
+    })
 }
 
 // Measures the packets that complete on a page, into `measures`, and judges the page by their lengths: where they lie, or 15
@@ -49,7 +50,7 @@ pub(crate) fn time_page(
     body: &[u8],
     carry: &[u8],
     measures: &mut [u32],
-) -> Timed
+) -> Result<Timed, Refusal>
     requires measurable { Measurable core.pending first.values first.bytes lacing.now body.now carry.now measures.old }
     requires small { h.granule < 2 ^ 63 }
     ensures { Times result measures.new core h (measured (count_of core.streams)
@@ -58,7 +59,7 @@ pub(crate) fn time_page(
 {
     let pending = core.pending;
     let streams = packets::stream_count(core.streams);
-    match packets::measure_page(
+    let all = packets::measure_page(
         pending,
         first.values,
         first.bytes,
@@ -67,10 +68,8 @@ pub(crate) fn time_page(
         carry,
         streams,
         measures,
-    ) {
-        Measured::Refused(why) => Timed::Refused(why),
-        Measured::All(count, d) => judge_page(core, h, count, d),
-    }
+    )?;
+    judge_page(core, h, all.count, all.samples)
 }
 
 // The samples that are to skip after `d` others.
@@ -135,19 +134,18 @@ pub(crate) fn list_packets(
 {
     let mut at = from;
     let mut left = skip;
-    let mut i: usize = 0;
-    while i < n {
+    for i in 0..n {
         let m = measures[i];
         let d = m / 64;
         list_one(i, m, at, left, last, g, ends, lengths, kept, frames);
         at += wide(d);
         left = skip_after(left, d);
-        i += 1;
     }
     left
 }
 
 // The same of `n` packets with one measure.
+// stays: one function of both would take the measure of place `i` by a closure, whose contract is longer than this loop.
 pub(crate) fn list_same(
     m: u32,
     n: usize,
@@ -169,12 +167,10 @@ pub(crate) fn list_same(
     let d = m / 64;
     let mut at = from;
     let mut left = skip;
-    let mut i: usize = 0;
-    while i < n {
+    for i in 0..n {
         list_one(i, m, at, left, last, g, ends, lengths, kept, frames);
         at += wide(d);
         left = skip_after(left, d);
-        i += 1;
     }
     left
 }

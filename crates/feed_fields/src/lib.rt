@@ -1,10 +1,9 @@
 // The checks of a page's fields against what a reader expects (RULES.md, refusals 5 to 8).
 #![tactic(auto)]
 
-ghost use Rattle.std.specs.Prelude.{◌≡◌, not, ◌&&◌, ◌||◌, [], ◌∷◌};
-ghost use Rattle.std.specs.Bool.{beq};
+ghost use Rattle.std.specs.Prelude.{◌≡◌, [], ◌∷◌};
 ghost use Rattle.octets.specs.Octets.{Bytes};
-ghost use Rattle.refusal.specs.Checks.{◌when◌, first_of, or_else};
+ghost use Rattle.refusal.specs.Checks.{◌when◌, first_of};
 ghost use Rattle.stream.specs.Page.{page_with};
 ghost use Rattle.stream.specs.State.{expecting};
 ghost use Rattle.stream.specs.Rules.{wrong_flags, field_checks};
@@ -16,97 +15,49 @@ use page_layout::PageHeader;
 use refusal::Refusal;
 use stream::{Core, Pending, Phase};
 
-#[derive(Clone, Copy)]
-pub enum Checked {
-    // no check holds
-    Passed,
-    // the first check that holds
-    Refused(Refusal),
-}
-
 // ---- what is unfinished
 
 fn is_pending(pending: Pending) -> bool
     ensures { result ≡ is_pending pending }
 {
-    match pending {
-        Pending::Nothing => false,
-        Pending::Held(_) => true,
-        Pending::Dropped => true,
-    }
-}
-
-fn both(a: bool, b: bool) -> bool
-    ensures { result ≡ (a && b) }
-{
-    if a { b } else { false }
-}
-
-fn either(a: bool, b: bool) -> bool
-    ensures { result ≡ (a || b) }
-{
-    if a { true } else { b }
-}
-
-fn differ(a: bool, b: bool) -> bool
-    ensures { result ≡ not (beq a b) }
-{
-    if a { !b } else { b }
+    matches!(pending, Pending::Held(_) | Pending::Dropped)
 }
 
 // ---- the fields
 
-// One check more: it is given where none before it holds.
-fn and_then(c: Checked, why: Refusal, holds: bool) -> Checked
-    ensures { found result ≡ or_else (found c) (first_of (why when holds ∷ [])) }
+// Refuses where the test holds. Example: `refuse_if(true, Refusal::WrongFlags)` is `Err(Refusal::WrongFlags)`.
+fn refuse_if(holds: bool, why: Refusal) -> Result<(), Refusal>
+    ensures { found result ≡ first_of (why when holds ∷ []) }
 {
-    match c {
-        Checked::Refused(n) => Checked::Refused(n),
-        Checked::Passed => if holds {
-            Checked::Refused(why)
-        } else {
-            Checked::Passed
-        },
-    }
+    if holds { Err(why) } else { Ok(()) }
 }
 
 // 7
 fn wrong_flags(phase: Phase, flags: u8) -> bool
     ensures { result ≡ wrong_flags phase flags }
 {
-    let mark = differ(
-        page_flags::is_first_page(flags),
-        feed_phase::is_first(phase),
-    );
-    let end = both(
-        feed_phase::in_headers(phase),
-        page_flags::is_last_page(flags),
-    );
-    either(flags > 7, either(mark, end))
+    let mark = page_flags::is_first_page(flags) != feed_phase::is_first(phase);
+    let end = feed_phase::in_headers(phase) & page_flags::is_last_page(flags);
+    (flags > 7) | (mark | end)
 }
 
 // 5 to 8, of the core that expects the page (RULES.md, 2): another serial, another sequence number than the one due, wrong
 // flags, and a continued mark where no packet is unfinished or none where one is. The first in this order is given.
 // Example: in `Phase::Audio` with serial 7, number 3 due and nothing pending, a page with serial 7, sequence 3 and flags 0
 // passes. With flags 1 it is 8.
-pub fn check_fields(core: Core, h: PageHeader) -> Checked
+pub fn check_fields(core: Core, h: PageHeader) -> Result<(), Refusal>
     ensures { (carry lacing body : Bytes) →
         found result ≡ first_of (field_checks (view core carry) (page_with h lacing body)) }
 {
     let phase = core.phase;
     let pending = core.pending;
     let flags = h.flags;
-    let c = and_then(
-        Checked::Passed,
-        Refusal::OtherSerial,
-        h.serial != core.serial,
-    );
-    let c = and_then(c, Refusal::OutOfSequence, h.sequence != core.next);
-    let c = and_then(c, Refusal::WrongFlags, wrong_flags(phase, flags));
-    and_then(
-        c,
+    refuse_if(h.serial != core.serial, Refusal::OtherSerial)?;
+    refuse_if(h.sequence != core.next, Refusal::OutOfSequence)?;
+    refuse_if(wrong_flags(phase, flags), Refusal::WrongFlags)?;
+    refuse_if(
+        page_flags::is_continued(flags) != is_pending(pending),
         Refusal::WrongContinued,
-        differ(page_flags::is_continued(flags), is_pending(pending)),
     )
 }
 
@@ -131,6 +82,7 @@ fn same_pending(p: Pending) -> Pending
 }
 
 // The same core, its enums made again: so the compiler need not copy, page after page, the unused bytes in them.
+// stays: speed may not change, and this is what keeps those bytes from being copied.
 fn remade(core: Core) -> Core
     ensures { result ≡ core }
 {

@@ -1,8 +1,9 @@
 -- A page of the comment packet, after 9 to 11: what is in the carry buffer, 14, and the reader that follows. Assumes nothing.
+use Rattle.std.specs.Prelude.{Ok, Err}
 use Prim.Native.Nat.{ℕ, ◌+◌, ◌≤◌}
 use mathlib.Core.Path.{◌≡◌, refl, sym, ap, ◌∙◌}
 use mathlib.Core.Bool.{Bool, true, false, not, true≢false}
-use mathlib.Core.List.{List, [], ◌∷◌, ◌++◌}
+use mathlib.Core.List.{[], ◌∷◌, ◌++◌}
 use mathlib.Core.Option.{Option, none, some}
 use native.Mathlib.Omega.{arith}
 use lib.ListN.{length, take, drop}
@@ -39,7 +40,6 @@ use Rattle.stream.proofs.Pieces.{non_empty, Fits, piece-fits}
 use Rattle.stream.proofs.Carry.{fresh, joined-there}
 use Rattle.stream.specs.declared.Shape.{Shape}
 use Rattle.stream.specs.declared.Shape.TheVariants.{Ends, GoesOn, Other}
-use Rattle.stream.specs.declared.PageFed.TheVariants.{Accepted, Refused}
 use Rattle.feed_header.proofs.HeaderPages.{says_last, says-earlier, done_by_pieces}
 use Rattle.feed_header.proofs.Late.{late_in, refused_below_12, refused_late, past-lacing, accepted}
 use Rattle.feed_header.specs.Header.{header_on, header_fed, checks9to14}
@@ -147,7 +147,7 @@ module _ (crc : Bytes → ℕ) (core : Core) (tally : Tally) (c : Bytes) (lists 
   inside : in_headers core.phase ≡ true
   inside = rw comment
 
-  pub comment_below_12 : (n : Refusal) → first_of (lacing_checks t p (seen t p)) ≡ some n → FedIs (header_on (readings crc) (reader_of core tally) m (page_with h lacing body)) (told_page (Refused n)) m
+  pub comment_below_12 : (n : Refusal) → first_of (lacing_checks t p (seen t p)) ≡ some n → FedIs (header_on (readings crc) (reader_of core tally) m (page_with h lacing body)) (told_page (Err n)) m
   unfolding header_fed
   comment_below_12 n e = refused_below_12 R t p (seen t p) (record { core = core; tally = tally }) m n e
 
@@ -189,7 +189,7 @@ module _ (crc : Bytes → ℕ) (core : Core) (tally : Tally) (c : Bytes) (lists 
         is-packet = part ∙ (rw (size, written) (packet-is room))
 
         pub last-accepted : {k : ℕ} → gives k ≡ retold comment_count (read_tags b)
-            → FedIs (header_on (readings crc) (reader_of core tally) m (page_with h lacing body)) (told_page (Accepted (core_after h Audio Nothing core.position core.streams core.preskip) (tally_after tally tally.skip no_counts) no_counts)) (with_carry lists d)
+            → FedIs (header_on (readings crc) (reader_of core tally) m (page_with h lacing body)) (told_page (Ok (record { core = (core_after h Audio Nothing core.position core.streams core.preskip); tally = (tally_after tally tally.skip no_counts); counts = no_counts }))) (with_carry lists d)
         unfolding header_fed read_tags
         last-accepted {k} r =
             accepted R t p (seen t p) (record { core = core; tally = tally }) m inside (first_of (checks9to14 R t p (seen t p))) _ _ d
@@ -197,7 +197,7 @@ module _ (crc : Bytes → ℕ) (core : Core) (tally : Tally) (c : Bytes) (lists 
             last-next skip-stays (written ∙ last-carry)
 
         pub last-refused : (why : Refusal) → refuses (number_of why) ≡ retold comment_count (read_tags b)
-            → FedIs (header_on (readings crc) (reader_of core tally) m (page_with h lacing body)) (told_page (Refused why)) (with_carry lists d)
+            → FedIs (header_on (readings crc) (reader_of core tally) m (page_with h lacing body)) (told_page (Err why)) (with_carry lists d)
         unfolding header_fed read_tags first_of
         last-refused why r =
             let found = last_found ∙ ap (λ (x : Bytes). first_of (read_checks x)) (sym is-packet) in
@@ -226,7 +226,7 @@ module _ (crc : Bytes → ℕ) (core : Core) (tally : Tally) (c : Bytes) (lists 
       earlier-next = rw (earlier-done, earlier-left, comment)
 
       pub earlier-accepted : {d : Bytes} → packet_max ≤ length c → d ≡ appended Comment t.carried body c
-          → FedIs (header_on (readings crc) (reader_of core tally) m (page_with h lacing body)) (told_page (Accepted (core_after h Comment (longer core.pending (length body)) core.position core.streams core.preskip) (tally_after tally tally.skip no_counts) no_counts)) (with_carry lists d)
+          → FedIs (header_on (readings crc) (reader_of core tally) m (page_with h lacing body)) (told_page (Ok (record { core = core_after h Comment (longer core.pending (length body)) core.position core.streams core.preskip; tally = tally_after tally tally.skip no_counts; counts = no_counts }))) (with_carry lists d)
       unfolding header_fed carry_after
       earlier-accepted {d} room written =
           accepted R t p (seen t p) (record { core = core; tally = tally }) m inside (first_of (checks9to14 R t p (seen t p))) _ _ d earlier-found earlier-next skip-stays

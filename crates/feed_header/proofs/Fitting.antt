@@ -1,4 +1,7 @@
 -- The test of the arguments: a header page is fed, and of anything else nothing is told. Assumes nothing.
+use Rattle.std.specs.Prelude.{Some, None, Result}
+use Rattle.refusal.specs.declared.Refusal.{Refusal}
+use Rattle.stream.specs.declared.PageFed.{PageFed}
 use mathlib.Core.Path.{◌≡◌, refl, ap}
 use mathlib.Core.Bool.{Bool, true, false, not, true≢false, false≢true}
 use mathlib.Core.Option.{some}
@@ -22,7 +25,6 @@ use Rattle.stream.specs.Page.{page_with}
 use Rattle.stream.specs.Readings.{Readings}
 use Rattle.stream.specs.State.{is_first}
 use Rattle.stream.specs.Feed.{reader_of, FedIs, told_page}
-use Rattle.feed_header.specs.declared.HeaderFed.TheVariants.{Page as OfPage, NotHeader}
 use Rattle.feed_header.specs.Header.{is_header, is_header_page, header_on, FeedsHeader}
 use Rattle.feed_header.specs.Code.{HeadDue, CommentDue}
 
@@ -71,10 +73,10 @@ module _ (k : Core) (l body carry : Bytes) where
     }
 
   module _ (R : Readings) (t : Tally) (h : PageHeader) (m : Lent) where
-    pub not-due : tested ≡ false → FeedsHeader R (reader_of k t) (page_with h l body) (with_carry m carry) NotHeader (with_carry m carry)
+    pub not-due : tested ≡ false → FeedsHeader R (reader_of k t) (page_with h l body) (with_carry m carry) None (with_carry m carry)
     not-due e = record { told = rw e; lent = rw e }
 
-    pub due : tested ≡ true → (f : PageFed) {c : Bytes}
+    pub due : tested ≡ true → (f : Result PageFed Refusal) {c : Bytes}
         → FedIs (header_on R (reader_of k t) (with_carry m carry) (page_with h l body)) (told_page f) (with_carry m c)
-        → FeedsHeader R (reader_of k t) (page_with h l body) (with_carry m carry) (OfPage f) (with_carry m c)
+        → FeedsHeader R (reader_of k t) (page_with h l body) (with_carry m carry) (Some f) (with_carry m c)
     due e f {c} o = record { told = rw e (ap some o.told); lent = rw e o.lent }

@@ -1,4 +1,5 @@
 -- The page of the identification header, after 9 to 11: 12 and 13, and the reader that follows. Assumes nothing.
+use Rattle.std.specs.Prelude.{Ok, Err}
 use Prim.Native.Nat.{ℕ}
 use mathlib.Core.Path.{◌≡◌, refl, ap, ◌∙◌}
 use mathlib.Core.Bool.{Bool, true, false, not}
@@ -32,7 +33,6 @@ use Rattle.stream.specs.Feed.{core_of, view, skip_on, tally_after, carry_after, 
 use Rattle.stream.specs.Lent.{Lent}
 use Rattle.stream.specs.Shape.{shape_of, wrong_shape}
 use Rattle.stream.specs.declared.Shape.TheVariants.{Ends}
-use Rattle.stream.specs.declared.PageFed.TheVariants.{Accepted, Refused}
 use Rattle.feed_header.proofs.HeaderPages.{is_last, says_last}
 use Rattle.feed_header.proofs.Late.{late_in, refused_below_12, refused_late, past-lacing, accepted}
 use Rattle.feed_header.specs.Header.{header_on, header_fed, checks9to14}
@@ -52,7 +52,7 @@ module _ (crc : Bytes → ℕ) (core : Core) (tally : Tally) (m : Lent) (h : Pag
   inside = rw first
 
   pub head_below_12 : (n : Refusal) → first_of (lacing_checks t p (seen t p)) ≡ some n
-      → FedIs (header_on (readings crc) (reader_of core tally) m (page_with h lacing body)) (told_page (Refused n)) m
+      → FedIs (header_on (readings crc) (reader_of core tally) m (page_with h lacing body)) (told_page (Err n)) m
   unfolding header_fed
   head_below_12 n e = refused_below_12 R t p (seen t p) (record { core = core; tally = tally }) m n e
 
@@ -85,7 +85,7 @@ module _ (crc : Bytes → ℕ) (core : Core) (tally : Tally) (m : Lent) (h : Pag
 
     -- a refusal by 12 or 13
     pub head-refused : (why : Refusal) → read_head body ≡ refuses (number_of why)
-        → FedIs (header_on (readings crc) (reader_of core tally) m (page_with h lacing body)) (told_page (Refused why)) m
+        → FedIs (header_on (readings crc) (reader_of core tally) m (page_with h lacing body)) (told_page (Err why)) m
     unfolding header_fed read_head first_of
     head-refused why r =
         refused_late R t p (seen t p) (record { core = core; tally = tally }) m (first_of (checks9to14 R t p (seen t p))) (head_of body) why m.carry
@@ -99,7 +99,7 @@ module _ (crc : Bytes → ℕ) (core : Core) (tally : Tally) (m : Lent) (h : Pag
         by false false k = let z : ◌≡◌ {A = ℕ} 0 1 = cc in absurd (omega arith)
 
     pub head-accepted : (head : Head) → read_head body ≡ gives head
-        → FedIs (header_on (readings crc) (reader_of core tally) m (page_with h lacing body)) (told_page (Accepted (core_after h Comment Nothing core.position head.streams head.preskip) (tally_after tally head.preskip no_counts) no_counts)) m
+        → FedIs (header_on (readings crc) (reader_of core tally) m (page_with h lacing body)) (told_page (Ok (record { core = (core_after h Comment Nothing core.position head.streams head.preskip); tally = (tally_after tally head.preskip no_counts); counts = no_counts }))) m
     unfolding header_fed read_head
     head-accepted head r =
         let k = no_refusal (first_of (read_checks body)) (head_of body) head r in

@@ -1,7 +1,6 @@
 -- 9 to 11 of a header page, by its shape. Assumes nothing.
-use Prim.Native.Nat.{ℕ}
-use mathlib.Core.Path.{◌≡◌, refl, sym, ap, ◌∙◌}
-use mathlib.Core.Bool.{Bool, true, false, not, false≢true, true≢false}
+use mathlib.Core.Path.{◌≡◌, refl, sym, ◌∙◌}
+use mathlib.Core.Bool.{true, false, false≢true, true≢false}
 use mathlib.Core.List.{List, [], ◌∷◌}
 use mathlib.Core.Option.{Option, none, some}
 use lib.ListN.{length}
@@ -9,7 +8,7 @@ use Rattle.octets.specs.Pick.{pick}
 use Rattle.octets.specs.Octets.{Bytes, total}
 use Rattle.refusal.specs.declared.Refusal.TheVariants.{PacketTooLong, HeaderShape, WrongGranule}
 use Rattle.refusal.specs.Checks.{first_of}
-use Rattle.granule.specs.Judging.{granule_max, granule_wrong}
+use Rattle.granule.specs.Judging.{granule_wrong}
 use Rattle.stream.specs.declared.Phase.{Phase}
 use Rattle.stream.specs.declared.Phase.TheVariants.{First, Comment, Audio, Opened, Ended}
 use Rattle.stream.specs.declared.Shape.{Shape}

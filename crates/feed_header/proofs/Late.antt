@@ -1,4 +1,5 @@
 -- What 9 to 14 leave, by what they found. Assumes nothing.
+use Rattle.std.specs.Prelude.{Ok, Err}
 use Prim.Native.Nat.{ℕ}
 use mathlib.Core.Path.{◌≡◌, refl, sym, ap, ◌∙◌}
 use mathlib.Core.Bool.{Bool, true, false, true≢false}
@@ -15,7 +16,6 @@ use Rattle.refusal.proofs.Checks.{first_of-append}
 use Rattle.granule.specs.Judging.{granule_wrong}
 use Rattle.granule.specs.Samples.{tally, kept_of, skipped_of, trimmed_of}
 use Rattle.stream.specs.declared.Core.{Core}
-use Rattle.stream.specs.declared.Tally.{Tally}
 use Rattle.stream.specs.Page.{Page, granule_of, whole, rest}
 use Rattle.stream.specs.Shape.{shape_of, wrong_shape}
 use Rattle.stream.specs.Readings.{Readings}
@@ -24,7 +24,6 @@ use Rattle.stream.specs.Packets.{Seen, is_long, audio_packets, measures_of, samp
 use Rattle.stream.specs.Rules.{granule_most, lacing_checks, header_checks, next_on}
 use Rattle.stream.specs.Lent.{Lent, with_carry}
 use Rattle.stream.specs.Feed.{Reader as Known, core_of, entries, entries_on, counts_on, skip_on, tally_after, tally_on, first_piece, appended, is_late, carry_after, fed_by, no_counts, FedIs, told_page}
-use Rattle.stream.specs.declared.PageFed.TheVariants.{Accepted, Refused}
 use Rattle.stream.proofs.Lent.{same-lent}
 use Rattle.feed_header.specs.Header.{checks9to14}
 
@@ -63,14 +62,14 @@ module _ (R : Readings) (t : State) (p : Page) (x : Seen) where
   module _ (r : Known) (m : Lent) where
     -- a refusal before 12: all stays
     pub refused_below_12 : (n : Refusal) → first_of (lacing_checks t p x) ≡ some n
-        → FedIs (fed_by (first_of (checks9to14 R t p x)) R r m t p x) (told_page (Refused n)) m
+        → FedIs (fed_by (first_of (checks9to14 R t p x)) R r m t p x) (told_page (Err n)) m
     unfolding carry_after
     refused_below_12 n e = rw (lacing-refuses n e) (record { told = refl; lent = rw (below_12 n e) })
 
     -- a refusal by one of 12 to 14: the piece is in the carry buffer
     pub refused_late : (v : Option Refusal) {A : Type 0} (a : A) (why : Refusal) (carry : Bytes) → decided v a ≡ refuses (number_of why)
         → late_in v ≡ true → carry ≡ appended t.phase t.carried (first_piece (whole p) (rest p)) m.carry
-        → FedIs (fed_by v R r m t p x) (told_page (Refused why)) (with_carry m carry)
+        → FedIs (fed_by v R r m t p x) (told_page (Err why)) (with_carry m carry)
     unfolding carry_after
     refused_late none a why carry e l c = absurd (true≢false (sym l))
     refused_late (some n) a why carry e l c = record { told = ap refuses (sym (ap number_in e)); lent = same-lent (rw l c) refl refl refl refl }
@@ -91,7 +90,7 @@ module _ (R : Readings) (t : State) (p : Page) (x : Seen) where
 
       pub accepted : (v : Option Refusal) (core : Core) (skip : ℕ) (carry : Bytes) → v ≡ none → core ≡ core_of (next_on R t p x)
           → skip ≡ skip_on R r.tally.skip t p x → carry ≡ carry_after none t p m.carry
-          → FedIs (fed_by v R r m t p x) (told_page (Accepted core (tally_after r.tally skip no_counts) no_counts)) (with_carry m carry)
+          → FedIs (fed_by v R r m t p x) (told_page (Ok (record { core = core; tally = (tally_after r.tally skip no_counts); counts = no_counts }))) (with_carry m carry)
       unfolding tally_on
       accepted v core skip carry e k s c =
           rw (e, no_counts_lem r.tally.skip, no_entries r.tally.skip, ← k, ← s) (record { told = refl; lent = same-lent c refl refl refl refl })

@@ -12,7 +12,7 @@ use Rattle.stream.specs.declared.Pending.TheVariants.{Nothing, Held, Dropped}
 use Rattle.stream.specs.declared.Core.{Core}
 use Rattle.stream.specs.declared.Shape.{Shape}
 use Rattle.stream.specs.Page.{page_with}
-use Rattle.stream.specs.State.{State, in_headers}
+use Rattle.stream.specs.State.{in_headers}
 use Rattle.stream.specs.Shape.{shape_of}
 use Rattle.stream.specs.Packets.{seen}
 use Rattle.stream.specs.Rules.{lacing_checks}

@@ -1,6 +1,8 @@
 -- Feeding one page of the two headers to a reader that expects it, after refusals 1 to 8 (RULES.md, refusals 9 to 14). Where the
 -- arguments are no such page, or lack the room, nothing is told and all stays. Assumes nothing.
-use Rattle.std.specs.Prelude.{ℕ, Bool, true, false, not, ◌&&◌, List, ◌++◌, length}
+use Rattle.std.specs.Prelude.{Option as CodeOption, Some, None, Result, ℕ, Bool, true, false, not, ◌&&◌, List, ◌++◌, length}
+use Rattle.refusal.specs.declared.Refusal.{Refusal}
+use Rattle.stream.specs.declared.PageFed.{PageFed}
 use Rattle.std.proofs.Math.Option.{Option, none, some}
 use Rattle.octets.specs.Octets.{Bytes}
 use Rattle.refusal.specs.Checks.{Check, first_of}
@@ -17,8 +19,6 @@ use Rattle.stream.specs.State.{State}
 use Rattle.stream.specs.Packets.{Seen, seen}
 use Rattle.stream.specs.Rules.{lacing_checks, header_checks}
 use Rattle.stream.specs.Feed.{Reader, view, Taken, Fed, FedWhen, fed_by, told_page}
-use Rattle.feed_header.specs.declared.HeaderFed.{HeaderFed}
-use Rattle.feed_header.specs.declared.HeaderFed.TheVariants.{Page as OfPage, NotHeader}
 
 -- ---- the rules
 
@@ -50,11 +50,11 @@ unfoldable pub is_header_page : Phase → Pending → Bytes → Bytes → ℕ �
 is_header_page ph pending lacing body carry = is_header ph pending && (not (short_carry carry) && is_body lacing body)
 
 -- what the answer tells
-abbrev pub told_header : HeaderFed → Option (Told Taken)
-told_header (OfPage f) = some (told_page f)
-told_header NotHeader = none
+abbrev pub told_header : CodeOption (Result PageFed Refusal) → Option (Told Taken)
+told_header (Some f) = some (told_page f)
+told_header None = none
 
-abbrev pub FeedsHeader : Readings → Reader → Page → Lent → HeaderFed → Lent → Type 0
+abbrev pub FeedsHeader : Readings → Reader → Page → Lent → CodeOption (Result PageFed Refusal) → Lent → Type 0
 FeedsHeader R r p before answer after =
     FedWhen (is_header_page r.core.phase r.core.pending p.lacing p.body (length before.carry))
     (header_on R r before p) (told_header answer) before after

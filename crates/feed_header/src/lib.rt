@@ -12,42 +12,37 @@ ghost use Rattle.feed_fields.specs.Checked.{found};
 ghost use Rattle.feed_header.specs.Header.{is_header, is_header_page, header_on, FeedsHeader};
 ghost use Rattle.feed_header.specs.Code.{lacing_found, Shaped, HeadDue, CommentDue, longer as longerBy, Within};
 
-use feed_fields::Checked;
-use head_reader::Verdict;
 use page_layout::PageHeader;
 use refusal::Refusal;
 use stream::{Core, PageFed, Pending, Phase, Shape, Tally};
-use tags_reader::TagsRead;
-
-#[derive(Clone, Copy)]
-pub enum HeaderFed {
-    // what feeding a page of the two headers answers
-    Page(PageFed),
-    // these arguments are no header page with room
-    NotHeader,
-}
 
 // 9 to 11 of a header page of this shape.
-fn check_lacing(core: Core, h: PageHeader, lacing: &[u8], shape: Shape) -> Checked
+fn check_lacing(core: Core, h: PageHeader, lacing: &[u8], shape: Shape) -> Result<(), Refusal>
     requires { Shaped core shape lacing.now }
     ensures { (carry body : Bytes) → found result ≡ lacing_found core h carry lacing.now body }
 {
     let phase = core.phase;
     let pending = core.pending;
     if feed_lacing::is_long(pending, lacing) {
-        return Checked::Refused(Refusal::PacketTooLong);
+        return Err(Refusal::PacketTooLong);
     }
     if feed_lacing::wrong_shape(phase, shape) {
-        return Checked::Refused(Refusal::HeaderShape);
+        return Err(Refusal::HeaderShape);
     }
     if granule::wrong_granule(0, feed_lacing::is_ends(shape), h.granule) {
-        return Checked::Refused(Refusal::WrongGranule);
+        return Err(Refusal::WrongGranule);
     }
-    Checked::Passed
+    Ok(())
 }
 
 // The page of the identification header. Nothing is written to lent memory.
-fn feed_head(core: Core, tally: Tally, h: PageHeader, lacing: &[u8], body: &[u8]) -> PageFed
+fn feed_head(
+    core: Core,
+    tally: Tally,
+    h: PageHeader,
+    lacing: &[u8],
+    body: &[u8],
+) -> Result<PageFed, Refusal>
     requires { HeadDue core lacing.now body.now }
     ensures { (crc : Bytes → ℕ) (m : Lent) →
         FedIs (header_on (readings crc) (reader_of core tally) m (page_with h lacing.now body.now))
@@ -55,30 +50,26 @@ fn feed_head(core: Core, tally: Tally, h: PageHeader, lacing: &[u8], body: &[u8]
 {
     let position = core.position;
     let shape = feed_lacing::shape_of(lacing);
-    match check_lacing(core, h, lacing, shape) {
-        Checked::Passed => {
-            let read = head_reader::read_head(body);
-            let verdict = read.verdict;
-            let head = read.head;
-            match verdict {
-                Verdict::Right => {
-                    let core = feed_next::next_core(
-                        h,
-                        Phase::Comment,
-                        Pending::Nothing,
-                        position,
-                        head.streams,
-                        head.preskip,
-                    );
-                    let counts = feed_next::no_counts();
-                    let after = feed_next::next_tally(tally, head.preskip, counts);
-                    PageFed::Accepted(core, after, counts)
-                }
-                Verdict::Refused(why) => PageFed::Refused(why),
-            }
-        }
-        Checked::Refused(why) => PageFed::Refused(why),
-    }
+    check_lacing(core, h, lacing, shape)?;
+    let read = head_reader::read_head(body);
+    let verdict = read.verdict;
+    verdict?;
+    let head = read.head;
+    let core = feed_next::next_core(
+        h,
+        Phase::Comment,
+        Pending::Nothing,
+        position,
+        head.streams,
+        head.preskip,
+    );
+    let counts = feed_next::no_counts();
+    let after = feed_next::next_tally(tally, head.preskip, counts);
+    Ok(PageFed {
+        core,
+        tally: after,
+        counts,
+    })
 }
 
 // What is unfinished after n more bytes of it.
@@ -101,7 +92,7 @@ fn feed_comment(
     lacing: &[u8],
     body: &[u8],
     carry: &mut [u8],
-) -> PageFed
+) -> Result<PageFed, Refusal>
     requires { CommentDue core lacing.now body.now carry.old }
     ensures { (crc : Bytes → ℕ) (m : Lent) →
         FedIs (header_on (readings crc) (reader_of core tally) (with_carry m carry.old)
@@ -112,42 +103,35 @@ fn feed_comment(
     let streams = core.streams;
     let preskip = core.preskip;
     let shape = feed_lacing::shape_of(lacing);
-    match check_lacing(core, h, lacing, shape) {
-        Checked::Passed => {
-            let left = longer(pending, body.len());
-            feed_memory::append(Phase::Comment, pending, body, carry);
-            if !feed_lacing::is_ends(shape) {
-                let core = feed_next::next_core(
-                    h,
-                    Phase::Comment,
-                    left,
-                    position,
-                    streams,
-                    preskip,
-                );
-                let counts = feed_next::no_counts();
-                let after = feed_next::next_tally(tally, tally.skip, counts);
-                return PageFed::Accepted(core, after, counts);
-            }
-            match tags_reader::read_tags(octets::part_of(carry, 0, feed_memory::held_in(left))) {
-                TagsRead::Count(_) => {
-                    let core = feed_next::next_core(
-                        h,
-                        Phase::Audio,
-                        Pending::Nothing,
-                        position,
-                        streams,
-                        preskip,
-                    );
-                    let counts = feed_next::no_counts();
-                    let after = feed_next::next_tally(tally, tally.skip, counts);
-                    PageFed::Accepted(core, after, counts)
-                }
-                TagsRead::Refused(why) => PageFed::Refused(why),
-            }
-        }
-        Checked::Refused(why) => PageFed::Refused(why),
+    check_lacing(core, h, lacing, shape)?;
+    let left = longer(pending, body.len());
+    feed_memory::append(Phase::Comment, pending, body, carry);
+    if !feed_lacing::is_ends(shape) {
+        let core = feed_next::next_core(h, Phase::Comment, left, position, streams, preskip);
+        let counts = feed_next::no_counts();
+        let after = feed_next::next_tally(tally, tally.skip, counts);
+        return Ok(PageFed {
+            core,
+            tally: after,
+            counts,
+        });
     }
+    tags_reader::read_tags(octets::part_of(carry, 0, feed_memory::held_in(left)))?;
+    let core = feed_next::next_core(
+        h,
+        Phase::Audio,
+        Pending::Nothing,
+        position,
+        streams,
+        preskip,
+    );
+    let counts = feed_next::no_counts();
+    let after = feed_next::next_tally(tally, tally.skip, counts);
+    Ok(PageFed {
+        core,
+        tally: after,
+        counts,
+    })
 }
 
 // A first page with nothing pending, or a page of the comment packet.
@@ -155,15 +139,9 @@ fn is_header(phase: Phase, pending: Pending) -> bool
     ensures { result ≡ is_header phase pending }
 {
     match phase {
-        Phase::First => match pending {
-            Pending::Nothing => true,
-            Pending::Held(_) => false,
-            Pending::Dropped => false,
-        },
+        Phase::First => matches!(pending, Pending::Nothing),
         Phase::Comment => true,
-        Phase::Audio => false,
-        Phase::Opened => false,
-        Phase::Ended => false,
+        Phase::Audio | Phase::Opened | Phase::Ended => false,
     }
 }
 
@@ -192,7 +170,7 @@ pub fn feed_header(
     lacing: &[u8],
     body: &[u8],
     carry: &mut [u8],
-) -> HeaderFed
+) -> Option<Result<PageFed, Refusal>>
     ensures { (crc : Bytes → ℕ) (m : Lent) →
         FeedsHeader (readings crc) (reader_of core tally) (page_with h lacing.now body.now)
         (with_carry m carry.old) result (with_carry m carry.new) }
@@ -200,10 +178,10 @@ pub fn feed_header(
     let phase = core.phase;
     let pending = core.pending;
     if !is_fed(phase, pending, carry.len(), lacing, body) {
-        return HeaderFed::NotHeader;
+        return None;
     }
     if feed_phase::is_first(phase) {
-        return HeaderFed::Page(feed_head(core, tally, h, lacing, body));
+        return Some(feed_head(core, tally, h, lacing, body));
     }
-    HeaderFed::Page(feed_comment(core, tally, h, lacing, body, carry))
+    Some(feed_comment(core, tally, h, lacing, body, carry))
 }

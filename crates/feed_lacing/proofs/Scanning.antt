@@ -1,7 +1,9 @@
 -- 9 and the rest on lacing values: what a turn of `scan_from` keeps, and what a scan says. Assumes nothing.
+use Rattle.std.specs.Prelude.{Option, Some, None}
 use Prim.Native.Nat.{ℕ, zero, suc, ◌+◌, ◌<◌, ◌≤◌}
 use mathlib.Core.Path.{◌≡◌, refl, sym, ◌∙◌}
-use mathlib.Core.Bool.{Bool, true, false, ◌||◌}
+use mathlib.Core.Bool.{Bool, true, false, not, ◌||◌, false≢true}
+use Rattle.std.specs.Option.{is_some}
 use mathlib.Core.List.{List, [], ◌∷◌}
 use native.Mathlib.Omega.{arith}
 use borrow.Author.Tests.{lt-ltb, le-ltb, ltb-true, ltb-false}
@@ -15,7 +17,6 @@ use Rattle.limits.specs.Limits.{packet_max}
 use Rattle.stream.specs.declared.Pending.{Pending}
 use Rattle.stream.specs.declared.Pending.TheVariants.{Nothing, Held, Dropped}
 use Rattle.stream.specs.Feed.{carried_in}
-use Rattle.feed_lacing.specs.declared.Scan.TheVariants.{TooLong, Rest}
 use Rattle.feed_lacing.specs.Scan.{scan_of, tail_by, scan_by}
 
 -- one value more
@@ -44,26 +45,26 @@ above (v ∷ l) n h = by (ltb v 255) refl (above l (n + v))
     by true e again = long-ends l n v e ∙ rw (lt-ltb packet_max (n + v) m)
     by false e again = long-goes_on l n v e ∙ again m
 
-pub above_scan : (l : List ℕ) (n : ℕ) → packet_max < n → TooLong ≡ scan_of n l
+pub above_scan : (l : List ℕ) (n : ℕ) → packet_max < n → None ≡ scan_of n l
 above_scan l n h = rw (above l n h)
 
 pub scan_goes_on : (l : List ℕ) (n v : ℕ) → 255 ≤ v → scan_of n (v ∷ l) ≡ scan_of (n + v) l
 unfolding unfinished_from
 scan_goes_on l n v h = rw (long-goes_on l n v (le-ltb v 255 h), le-ltb v 255 h)
 
-pub ends-long : (l : List ℕ) (n v : ℕ) → v < 255 → packet_max < n + v → TooLong ≡ scan_of n (v ∷ l)
+pub ends-long : (l : List ℕ) (n v : ℕ) → v < 255 → packet_max < n + v → None ≡ scan_of n (v ∷ l)
 ends-long l n v h m = rw (long-ends l n v (lt-ltb v 255 h), lt-ltb packet_max (n + v) m)
 
 pub ends-short : (l : List ℕ) (n v : ℕ) → v < 255 → n + v ≤ packet_max → scan_of n (v ∷ l) ≡ scan_of 0 l
 unfolding unfinished_from
 ends-short l n v h m = rw (long-ends l n v (lt-ltb v 255 h), lt-ltb v 255 h, le-ltb packet_max (n + v) m)
 
-pub scan_end : (n : ℕ) → n ≤ packet_max → Rest n ≡ scan_of n []
+pub scan_end : (n : ℕ) → n ≤ packet_max → Some n ≡ scan_of n []
 unfolding long_from ended_from unfinished_from any_long
 scan_end n h = rw (le-ltb packet_max n h)
 
 -- the last value ends a packet, and the sum is within the bound: no packet is too long, and none goes on
-pub scan_quick : (l : Bytes) (n i : ℕ) → length l ≡ suc i → get_or l i 0 < 255 → n + total l ≤ packet_max → scan_of n l ≡ Rest 0
+pub scan_quick : (l : Bytes) (n i : ℕ) → length l ≡ suc i → get_or l i 0 < 255 → n + total l ≤ packet_max → scan_of n l ≡ Some 0
 unfolding total
 scan_quick [] n i e h m = absurd (omega arith)
 scan_quick (v ∷ []) n zero e h m = ends-short [] n v h (omega arith) ∙ sym (scan_end 0 (omega arith))
@@ -72,7 +73,7 @@ scan_quick (v ∷ w ∷ l) n zero e h m = absurd (omega arith)
 scan_quick (v ∷ w ∷ l) n (suc i) e h m =
     by (ltb v 255) refl (scan_quick (w ∷ l) 0 i (omega arith) h (omega arith)) (scan_quick (w ∷ l) (n + v) i (omega arith) h (omega arith))
   where
-    by : (b : Bool) → ltb v 255 ≡ b → scan_of 0 (w ∷ l) ≡ Rest 0 → scan_of (n + v) (w ∷ l) ≡ Rest 0 → scan_of n (v ∷ w ∷ l) ≡ Rest 0
+    by : (b : Bool) → ltb v 255 ≡ b → scan_of 0 (w ∷ l) ≡ Some 0 → scan_of (n + v) (w ∷ l) ≡ Some 0 → scan_of n (v ∷ w ∷ l) ≡ Some 0
     by true t p q = ends-short (w ∷ l) n v (ltb-true v 255 t) (omega arith) ∙ p
     by false t p q = scan_goes_on (w ∷ l) n v (ltb-false v 255 t) ∙ q
 
@@ -87,22 +88,28 @@ after-ends l v h = rw (lt-ltb v 255 h)
 
 -- ---- what a scan says
 
-scan_is : (pending : Pending) (l carry : Bytes) → scan_by pending l ≡ pick (is_long (carried_in pending carry) l) TooLong (Rest (tail_by pending l))
+scan_is : (pending : Pending) (l carry : Bytes) → scan_by pending l ≡ pick (is_long (carried_in pending carry) l) None (Some (tail_by pending l))
 scan_is Nothing l carry = refl
 scan_is (Held n) l carry = refl
 scan_is Dropped l carry = refl
 
 module _ (pending : Pending) (l carry : Bytes) where
-  pub scan_long : TooLong ≡ scan_by pending l → is_long (carried_in pending carry) l ≡ true
+  pub scan_long : None ≡ scan_by pending l → is_long (carried_in pending carry) l ≡ true
   scan_long e = by (is_long (carried_in pending carry) l) (e ∙ scan_is pending l carry)
     where
-      by : (b : Bool) → TooLong ≡ pick b TooLong (Rest (tail_by pending l)) → b ≡ true
+      by : (b : Bool) → None ≡ pick b None (Some (tail_by pending l)) → b ≡ true
       by true e = refl
       by false e = let z : ◌≡◌ {A = ℕ} 0 1 = cc in absurd (omega arith)
 
-  pub scan_short : (rest : ℕ) → Rest rest ≡ scan_by pending l → (is_long (carried_in pending carry) l ≡ false) × (rest ≡ tail_by pending l)
+  pub scan_short : (rest : ℕ) → Some rest ≡ scan_by pending l → (is_long (carried_in pending carry) l ≡ false) × (rest ≡ tail_by pending l)
   scan_short rest e = by (is_long (carried_in pending carry) l) (e ∙ scan_is pending l carry)
     where
-      by : (b : Bool) → Rest rest ≡ pick b TooLong (Rest (tail_by pending l)) → (b ≡ false) × (rest ≡ tail_by pending l)
+      by : (b : Bool) → Some rest ≡ pick b None (Some (tail_by pending l)) → (b ≡ false) × (rest ≡ tail_by pending l)
       by true e = let z : ◌≡◌ {A = ℕ} 0 1 = cc in absurd (omega arith)
       by false e = (refl, cc)
+
+  pub none_is_long : (r : Option ℕ) (t : Bool) → r ≡ scan_by pending l → is_some r ≡ not t → t ≡ is_long (carried_in pending carry) l
+  none_is_long None true e n = sym (scan_long e)
+  none_is_long (Some rest) false e n = sym (scan_short rest e).0
+  none_is_long None false e n = absurd (false≢true n)
+  none_is_long (Some rest) true e n = absurd (false≢true (sym n))

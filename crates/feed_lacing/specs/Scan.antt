@@ -1,17 +1,15 @@
 -- The packets of a page against the bound of 9, by the lacing values (RULES.md, refusal 9). Assumes nothing.
-use Rattle.std.specs.Prelude.{ℕ, ◌≤◌, ◌≡◌, length, drop}
+use Rattle.std.specs.Prelude.{Option, Some, None, ℕ, ◌≤◌, ◌≡◌, length, drop}
 use Rattle.octets.specs.Pick.{pick}
 use Rattle.octets.specs.Octets.{Bytes}
 use Rattle.page_lacing.specs.Lacing.{unfinished_from}
 use Rattle.stream.specs.declared.Pending.{Pending}
 use Rattle.stream.specs.declared.Pending.TheVariants.{Nothing, Held, Dropped}
 use Rattle.stream.specs.Packets.{long_from, after_first}
-use Rattle.feed_lacing.specs.declared.Scan.{Scan}
-use Rattle.feed_lacing.specs.declared.Scan.TheVariants.{TooLong, Rest}
 
 -- 9, or the bytes of the unfinished packet; n bytes of the first packet are held
-abbrev pub scan_of : ℕ → Bytes → Scan
-scan_of n l = pick (long_from n l) TooLong (Rest (unfinished_from n l))
+abbrev pub scan_of : ℕ → Bytes → Option ℕ
+scan_of n l = pick (long_from n l) None (Some (unfinished_from n l))
 
 -- the bytes of the unfinished packet, by what is pending
 abbrev pub tail_by : Pending → Bytes → ℕ
@@ -20,7 +18,7 @@ tail_by (Held n) l = unfinished_from n l
 tail_by Dropped l = unfinished_from 0 (after_first l)
 
 -- 9, or these
-abbrev pub scan_by : Pending → Bytes → Scan
+abbrev pub scan_by : Pending → Bytes → Option ℕ
 scan_by Nothing l = scan_of 0 l
 scan_by (Held n) l = scan_of n l
 scan_by Dropped l = scan_of 0 (after_first l)

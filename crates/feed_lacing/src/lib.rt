@@ -1,50 +1,38 @@
 // 9, and the shape that 10 asks of a header page, by the lacing values of a page.
 #![tactic(auto)]
 
-ghost use Rattle.std.specs.Prelude.{◌≡◌, true, ◌≤◌, length, drop};
+ghost use Rattle.std.specs.Prelude.{◌≡◌, true, Some};
 ghost use Rattle.octets.specs.Octets.{Bytes};
 ghost use Rattle.stream.specs.Packets.{is_long};
 ghost use Rattle.stream.specs.Feed.{carried_in};
-ghost use Rattle.feed_lacing.specs.declared.Scan.TheVariants.{Rest};
 ghost use Rattle.feed_lacing.specs.Scan.{scan_of, scan_by, IsAfterFirst};
 ghost use Rattle.stream.specs.Shape.{shape_of, is_ends, is_other, wrong_shape};
 
 use limits::PACKET_MAX;
 use stream::{Pending, Phase, Shape};
 
-#[derive(Clone, Copy)]
-pub enum Scan {
-    // 9
-    TooLong,
-    // how many bytes the page's last, unfinished packet has, the held ones included
-    Rest(usize),
-}
-
-// The values from `from` on, `held` bytes of the first packet being held already.
-fn scan_from(lacing: &[u8], from: usize, held: usize) -> Scan
-    requires { from ≤ length lacing.now }
-    ensures { result ≡ scan_of held (drop from lacing.now) }
+// The values, `held` bytes of the first packet being held already.
+fn scan_from(lacing: &[u8], held: usize) -> Option<usize>
+    ensures { result ≡ scan_of held lacing.now }
 {
     let mut bytes = held;
-    let mut i = from;
-    while i < lacing.len() {
+    for x in lacing {
         if bytes > PACKET_MAX {
-            return Scan::TooLong;
+            return None;
         }
-        let v = octets::wide(lacing[i]);
+        let v = octets::wide(*x);
         bytes += v;
         if v < 255 {
             if bytes > PACKET_MAX {
-                return Scan::TooLong;
+                return None;
             }
             bytes = 0;
         }
-        i += 1;
     }
     if bytes > PACKET_MAX {
-        Scan::TooLong
+        None
     } else {
-        Scan::Rest(bytes)
+        Some(bytes)
     }
 }
 
@@ -52,19 +40,17 @@ fn scan_from(lacing: &[u8], from: usize, held: usize) -> Scan
 fn after_first(lacing: &[u8]) -> usize
     ensures { IsAfterFirst lacing.now result }
 {
-    let mut i = 0;
-    while i < lacing.len() {
-        if lacing[i] < 255 {
+    for (i, v) in lacing.iter().enumerate() {
+        if *v < 255 {
             return i + 1;
         }
-        i += 1;
     }
-    i
+    lacing.len()
 }
 
 // Whether no packet of these values is too long and none goes on, told quickly: by their sum and the last of them.
 fn is_quick(lacing: &[u8]) -> bool
-    ensures { result ≡ true → scan_of 0 lacing.now ≡ Rest 0 }
+    ensures { result ≡ true → scan_of 0 lacing.now ≡ Some 0 }
 {
     let n = lacing.len();
     if n == 0 {
@@ -80,28 +66,28 @@ fn is_quick(lacing: &[u8]) -> bool
 }
 
 // The packets of a page that continues none.
-fn scan_new(lacing: &[u8]) -> Scan
+fn scan_new(lacing: &[u8]) -> Option<usize>
     ensures { result ≡ scan_of 0 lacing.now }
 {
     if is_quick(lacing) {
-        return Scan::Rest(0);
+        return Some(0);
     }
-    scan_from(lacing, 0, 0)
+    scan_from(lacing, 0)
 }
 
 // The page's packets against 9, by what is pending (RULES.md, 2). A dropped packet is not measured. It gives the bytes of the
-// packet that goes on, 0 where none does, or `Scan::TooLong`.
-// Example: `scan_page(Pending::Held(10), &[255, 255])` is `Scan::Rest(520)`, and `scan_page(Pending::Nothing, &[255, 3])` is
-// `Scan::Rest(0)`.
-pub fn scan_page(pending: Pending, lacing: &[u8]) -> Scan
+// packet that goes on, 0 where none does, or `None`.
+// Example: `scan_page(Pending::Held(10), &[255, 255])` is `Some(520)`, and `scan_page(Pending::Nothing, &[255, 3])` is
+// `Some(0)`.
+pub fn scan_page(pending: Pending, lacing: &[u8]) -> Option<usize>
     ensures { result ≡ scan_by pending lacing.now }
 {
     match pending {
         Pending::Nothing => scan_new(lacing),
-        Pending::Held(n) => scan_from(lacing, 0, n),
+        Pending::Held(n) => scan_from(lacing, n),
         Pending::Dropped => {
             let from = after_first(lacing);
-            scan_from(lacing, from, 0)
+            scan_from(&lacing[from..], 0)
         }
     }
 }
@@ -111,10 +97,7 @@ pub fn scan_page(pending: Pending, lacing: &[u8]) -> Scan
 pub fn is_long(pending: Pending, lacing: &[u8]) -> bool
     ensures { (carry : Bytes) → result ≡ is_long (carried_in pending carry) lacing.now }
 {
-    match scan_page(pending, lacing) {
-        Scan::TooLong => true,
-        Scan::Rest(_) => false,
-    }
+    scan_page(pending, lacing).is_none()
 }
 
 // Whether the values are those of one piece, and whether that ends a packet (RULES.md, 3). It refuses nothing.
@@ -123,17 +106,14 @@ pub fn is_long(pending: Pending, lacing: &[u8]) -> bool
 pub fn shape_of(lacing: &[u8]) -> Shape
     ensures { result ≡ shape_of lacing.now }
 {
-    let mut i = 0;
-    while i < lacing.len() {
-        if lacing[i] < 255 {
-            if i + 1 < lacing.len() {
-                return Shape::Other;
-            }
-            return Shape::Ends;
+    for (i, v) in lacing.iter().enumerate() {
+        if *v < 255 {
+            let more = i + 1 < lacing.len();
+            return if more { Shape::Other } else { Shape::Ends };
         }
-        i += 1;
     }
-    if i == 0 {
+    let empty = lacing.is_empty();
+    if empty {
         return Shape::Other;
     }
     Shape::GoesOn
@@ -144,21 +124,13 @@ pub fn shape_of(lacing: &[u8]) -> Shape
 pub fn is_ends(shape: Shape) -> bool
     ensures { result ≡ is_ends shape }
 {
-    match shape {
-        Shape::Ends => true,
-        Shape::GoesOn => false,
-        Shape::Other => false,
-    }
+    matches!(shape, Shape::Ends)
 }
 
 fn is_other(shape: Shape) -> bool
     ensures { result ≡ is_other shape }
 {
-    match shape {
-        Shape::Ends => false,
-        Shape::GoesOn => false,
-        Shape::Other => true,
-    }
+    matches!(shape, Shape::Other)
 }
 
 // Whether 10 holds (RULES.md, 2): the first page has to be one whole packet, and a page of the comment packet one piece of it.
@@ -167,14 +139,8 @@ pub fn wrong_shape(phase: Phase, shape: Shape) -> bool
     ensures { result ≡ wrong_shape phase shape }
 {
     match phase {
-        Phase::First => match shape {
-            Shape::Ends => false,
-            Shape::GoesOn => true,
-            Shape::Other => true,
-        },
+        Phase::First => matches!(shape, Shape::GoesOn | Shape::Other),
         Phase::Comment => is_other(shape),
-        Phase::Audio => false,
-        Phase::Opened => false,
-        Phase::Ended => false,
+        Phase::Audio | Phase::Opened | Phase::Ended => false,
     }
 }

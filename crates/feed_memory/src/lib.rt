@@ -54,11 +54,8 @@ pub fn append(phase: Phase, pending: Pending, piece: &[u8], carry: &mut [u8])
 {
     match pending {
         Pending::Nothing => match phase {
-            Phase::First => {}
             Phase::Comment => octets::copy_at(carry, 0, piece),
-            Phase::Audio => {}
-            Phase::Opened => {}
-            Phase::Ended => {}
+            Phase::First | Phase::Audio | Phase::Opened | Phase::Ended => {}
         },
         Pending::Held(n) => octets::copy_at(carry, n, piece),
         Pending::Dropped => {}

@@ -26,7 +26,7 @@ pub fn next_core(
         pending,
         position,
         serial: h.serial,
-        next: std::num::wrapping_add_u32(h.sequence, 1),
+        next: h.sequence.wrapping_add(1),
         streams,
         preskip,
     }
@@ -54,9 +54,9 @@ pub fn next_tally(tally: Tally, skip: u16, counts: Counts) -> Tally
 {
     Tally {
         skip,
-        kept: std::num::wrapping_add_u64(tally.kept, counts.kept),
-        skipped: std::num::wrapping_add_u64(tally.skipped, counts.skipped),
-        trimmed: std::num::wrapping_add_u64(tally.trimmed, counts.trimmed),
-        hole: std::num::wrapping_add_u64(tally.hole, counts.hole),
+        kept: tally.kept.wrapping_add(counts.kept),
+        skipped: tally.skipped.wrapping_add(counts.skipped),
+        trimmed: tally.trimmed.wrapping_add(counts.trimmed),
+        hole: tally.hole.wrapping_add(counts.hole),
     }
 }

@@ -79,46 +79,39 @@ pub fn numbers_of(core: Core, tally: Tally) -> [u64; 16]
     ]
 }
 
+#[tactic(auto, unfolding(crate::specs::Numbers::phase_from))]
 fn phase_from(n: u64) -> Phase
     ensures { result ≡ phase_from n }
 {
-    if n == 0 {
-        return Phase::First;
+    match n {
+        0 => Phase::First,
+        1 => Phase::Comment,
+        2 => Phase::Audio,
+        3 => Phase::Opened,
+        _ => Phase::Ended,
     }
-    if n == 1 {
-        return Phase::Comment;
-    }
-    if n == 2 {
-        return Phase::Audio;
-    }
-    if n == 3 {
-        return Phase::Opened;
-    }
-    Phase::Ended
 }
 
+#[tactic(auto, unfolding(crate::specs::Numbers::pending_from))]
 fn pending_from(n: u64, count: u64) -> Pending
     ensures { result ≡ pending_from n count }
 {
-    if n == 0 {
-        return Pending::Nothing;
+    match n {
+        0 => Pending::Nothing,
+        1 => Pending::Held(count as usize),
+        _ => Pending::Dropped,
     }
-    if n == 1 {
-        return Pending::Held(count as usize);
-    }
-    Pending::Dropped
 }
 
+#[tactic(auto, unfolding(crate::specs::Numbers::position_from))]
 fn position_from(n: u64, g: u64) -> Position
     ensures { result ≡ position_from n g }
 {
-    if n == 0 {
-        return Position::Unset;
+    match n {
+        0 => Position::Unset,
+        1 => Position::Joined,
+        _ => Position::At(g),
     }
-    if n == 1 {
-        return Position::Joined;
-    }
-    Position::At(g)
 }
 
 // The core of the reader that the numbers represent (RULES.md, 14). It refuses nothing.

@@ -1,12 +1,14 @@
 -- Feeding a header page or an audio page is what is left of feeding after 1 to 8. Assumes nothing.
-use Prim.Native.Nat.{ℕ, ◌≤◌}
+use Rattle.std.specs.Prelude.{Option as CodeOption, Result}
+use Rattle.refusal.specs.declared.Refusal.{Refusal}
+use Rattle.stream.specs.declared.PageFed.{PageFed}
+use Prim.Native.Nat.{◌≤◌}
 use mathlib.Core.Path.{◌≡◌, refl, sym, ap, subst, ◌∙◌}
 use mathlib.Core.Bool.{Bool, true, false, false≢true}
 use mathlib.Core.Option.{Option, some}
 use borrow.Author.Tests.{le-leb, le-ltb, eq-eqb}
 use lib.ListN.{length}
 use Rattle.octets.specs.Octets.{Bytes, total}
-use Rattle.refusal.specs.declared.Refusal.{Refusal}
 use Rattle.refusal.specs.Checks.{first_of}
 use Rattle.refusal.specs.Told.{Told}
 use Rattle.page_layout.specs.declared.PageHeader.{PageHeader}
@@ -28,9 +30,7 @@ use Rattle.stream.specs.Lent.{Lent, is_short}
 use Rattle.stream.specs.Rules.{packet_checks, time_checks}
 use Rattle.stream.specs.Feed.{reader_of, view, Taken, Fed, FedIs, FedWhen, Feeds, fed_by}
 use Rattle.stream.proofs.Step.{enough}
-use Rattle.feed_audio.specs.declared.AudioFed.{AudioFed}
 use Rattle.feed_audio.specs.Audio.{audio_checks, audio_fed, audio_on, is_audio_page, told_audio, FeedsAudio}
-use Rattle.feed_header.specs.declared.HeaderFed.{HeaderFed}
 use Rattle.feed_header.specs.Header.{checks9to14, header_fed, header_on, is_header, is_header_page, told_header, FeedsHeader}
 use Rattle.feed_page.specs.Stages.{checks9to19, fed_from9, Awaits}
 
@@ -99,14 +99,14 @@ module _ {R : Readings} {core due : Core} {h : PageHeader} {tally : Tally} {m : 
       → Feeds R (reader_of core tally) b m x after
   by_late {f} {x} {after} e is = w.fed (rw (← lacing, ← rest) (subst (λ (g : Fed). FedIs g x after) e is))
 
-  pub by-audio : (a : AudioFed) (x : Told Taken) {after : Lent} → is_audio due.phase ≡ true
+  pub by-audio : (a : CodeOption (Result PageFed Refusal)) (x : Told Taken) {after : Lent} → is_audio due.phase ≡ true
       → ((t : Told Taken) → told_audio a ≡ some t → x ≡ t) → FeedsAudio R (reader_of due tally) (page_with h l body) m a after
       → Feeds R (reader_of core tally) b m x after
   by-audio a x k same is =
       by_late (audio_late R due tally m h l body room sums few k)
       (when_due is (audio-due R due tally m h l body room sums few k) x same)
 
-  pub by-header : (a : HeaderFed) (x : Told Taken) {after : Lent} → is_audio due.phase ≡ false
+  pub by-header : (a : CodeOption (Result PageFed Refusal)) (x : Told Taken) {after : Lent} → is_audio due.phase ≡ false
       → ((t : Told Taken) → told_header a ≡ some t → x ≡ t) → FeedsHeader R (reader_of due tally) (page_with h l body) m a after
       → Feeds R (reader_of core tally) b m x after
   by-header a x k same is =

@@ -1,21 +1,21 @@
 -- Feeding in stages (RULES.md, 7): 1 and 2, then 3 to 8, which give the core that expects the page, then the rest. Assumes
 -- nothing.
-use Rattle.std.specs.Prelude.{ℕ, ◌≤◌, ◌≡◌, true, false, List, [], ◌∷◌, ◌++◌, length}
+use Rattle.std.specs.Prelude.{Result, Ok, Err, ℕ, ◌≤◌, ◌≡◌, true, false, List, [], ◌∷◌, ◌++◌, length}
+use Rattle.refusal.specs.declared.Refusal.{Refusal}
 use Rattle.octets.specs.Octets.{Bytes}
 use Rattle.refusal.specs.declared.Refusal.TheVariants.{ShortRoom, AfterEnd}
 use Rattle.refusal.specs.Checks.{Check, ◌when◌, first_of}
 use Rattle.refusal.specs.Numbers.{number_of}
-use Rattle.refusal.specs.Told.{Told, gives, refuses}
+use Rattle.refusal.specs.Told.{Told, gives, refuses, told}
 use Rattle.page_layout.specs.declared.PageHeader.{PageHeader}
 use Rattle.page_layout.specs.Page.{lacing_of, body_of}
 use Rattle.page_size.specs.Size.{is_one_page}
-use Rattle.page_reader.specs.declared.PageRead.{PageRead}
-use Rattle.page_reader.specs.Reading.{told_read, read_page}
+use Rattle.page_reader.specs.Reading.{read_page}
 use Rattle.stream.specs.declared.Phase.{Phase}
 use Rattle.stream.specs.declared.Core.{Core}
 use Rattle.stream.specs.declared.Tally.{Tally}
 use Rattle.stream.specs.Page.{Page, page_with}
-use Rattle.stream.specs.Readings.{Readings, readings}
+use Rattle.stream.specs.Readings.{Readings}
 use Rattle.stream.specs.State.{State, is_audio, is_ended}
 use Rattle.stream.specs.Packets.{Seen, seen, audio_packets}
 use Rattle.stream.specs.Rules.{lacing_checks, header_checks, packet_checks, time_checks}
@@ -23,7 +23,6 @@ use Rattle.stream.specs.Feed.{Reader, reader_of, view, Taken, Fed, FedIs, Feeds,
 use Rattle.stream.specs.Lent.{Lent, short_by, is_short}
 use Rattle.feed_header.specs.Header.{is_header}
 use Rattle.feed_page.specs.declared.Due.{Due}
-use Rattle.feed_page.specs.declared.Due.TheVariants.{Page as Awaited, Refused}
 
 -- 1 and 2, before a page is read
 abbrev pub unread_checks : Phase → ℕ → ℕ → ℕ → ℕ → ℕ → List Check
@@ -43,8 +42,8 @@ unfoldable pub fed_from9 : Readings → Reader → Lent → Page → Fed
 fed_from9 R r m p = fed_from R r m (view r.core m.carry) p
 
 -- the bytes b read so, and neither 1 nor 2 is given
-pub record Unrefused (crc : Bytes → ℕ) (core : Core) (read : PageRead) (b : Bytes) (m : Lent) : Type 0 where
-  pub reads : told_read read ≡ read_page crc b
+pub record Unrefused (crc : Bytes → ℕ) (core : Core) (read : Result PageHeader Refusal) (b : Bytes) (m : Lent) : Type 0 where
+  pub reads : told read ≡ read_page crc b
   pub going : is_ended core.phase ≡ false
   pub room : is_short m ≡ false
 
@@ -57,9 +56,9 @@ pub record Awaits (R : Readings) (core due : Core) (h : PageHeader) (tally : Tal
       → Feeds R (reader_of core tally) b m t after
 
 -- 3 to 8
-abbrev pub DueIs : Due → Readings → Core → Tally → Lent → Bytes → Type 0
-DueIs (Awaited due h) R core tally m b = Awaits R core due h tally m b
-DueIs (Refused why) R core tally m b = Feeds R (reader_of core tally) b m (refuses (number_of why)) m
+abbrev pub DueIs : Result Due Refusal → Readings → Core → Tally → Lent → Bytes → Type 0
+DueIs (Ok p) R core tally m b = Awaits R core p.core p.header tally m b
+DueIs (Err why) R core tally m b = Feeds R (reader_of core tally) b m (refuses (number_of why)) m
 
 -- the same page by its lacing values l and its body `rest`; 1 is not given
 pub record AwaitsParts (R : Readings) (core due : Core) (h : PageHeader) (tally : Tally) (m : Lent)

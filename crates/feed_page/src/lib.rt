@@ -19,11 +19,7 @@ ghost use Rattle.page_crc.specs.Sliced.{page_sliced};
 ghost use Rattle.feed_audio.specs.Audio.{told_audio};
 ghost use Rattle.feed_header.specs.Header.{told_header};
 
-use feed_audio::AudioFed;
-use feed_fields::Checked;
-use feed_header::HeaderFed;
 use page_layout::PageHeader;
-use page_reader::PageRead;
 use refusal::Refusal;
 use stream::{Core, PageFed, Phase, Tally};
 
@@ -35,71 +31,75 @@ fn check_unread(
     lengths: usize,
     kept: usize,
     frames: usize,
-) -> Checked
+) -> Result<(), Refusal>
     ensures { found result ≡ first_of (unread_checks phase carry ends lengths kept frames) }
 {
     if feed_memory::is_short(carry, ends, lengths, kept, frames) {
-        return Checked::Refused(Refusal::ShortRoom);
+        return Err(Refusal::ShortRoom);
     }
     if feed_phase::is_ended(phase) {
-        return Checked::Refused(Refusal::AfterEnd);
+        return Err(Refusal::AfterEnd);
     }
-    Checked::Passed
+    Ok(())
 }
 
+// The core that expects the page, and the page's fields.
 #[derive(Clone, Copy)]
-enum Due {
-    // the core that expects the page, and the page's fields
-    Page(Core, PageHeader),
-    // 3 to 8
-    Refused(Refusal),
+struct Due {
+    core: Core,
+    header: PageHeader,
 }
 
 // 3 and 4 are what was read of the page.
-fn page_due(core: Core, read: PageRead) -> Due
+fn page_due(core: Core, read: Result<PageHeader, Refusal>) -> Result<Due, Refusal>
     ensures { (crc : Bytes → ℕ) (b : Bytes) (tally : Counting) (m : Lent) →
         Unrefused crc core read b m → DueIs result (readings crc) core tally m b }
 {
-    match read {
-        PageRead::Page(h) => {
-            let due = feed_fields::expected(core, h);
-            match feed_fields::check_fields(due, h) {
-                Checked::Passed => Due::Page(due, h),
-                Checked::Refused(why) => Due::Refused(why),
-            }
-        }
-        PageRead::Refused(why) => Due::Refused(why),
-    }
+    let header = read?;
+    let due = feed_fields::expected(core, header);
+    feed_fields::check_fields(due, header)?;
+    Ok(Due { core: due, header })
 }
 
 // The same answer, made again. One that is handed on is copied with its unused bytes, which costs some 4 % of a listing of one
 // packet a page.
-fn made_again(fed: PageFed) -> PageFed
+// stays: speed may not change, and this is what saves that copy.
+fn made_again(fed: Result<PageFed, Refusal>) -> Result<PageFed, Refusal>
     ensures { result ≡ fed }
 {
     match fed {
-        PageFed::Accepted(core, tally, counts) => PageFed::Accepted(core, tally, counts),
-        PageFed::Refused(why) => PageFed::Refused(why),
+        Ok(
+            PageFed {
+                core,
+                tally,
+                counts,
+            },
+        ) => Ok(PageFed {
+            core,
+            tally,
+            counts,
+        }),
+        Err(why) => Err(why),
     }
 }
 
 // An audio page with room is an audio page, so the second answer is never given here.
-fn of_audio(fed: AudioFed) -> PageFed
+fn of_audio(fed: Option<Result<PageFed, Refusal>>) -> Result<PageFed, Refusal>
     ensures { (t : Told Taken) → told_audio fed ≡ some t → told_page result ≡ t }
 {
     match fed {
-        AudioFed::Page(page) => made_again(page),
-        AudioFed::NotAudio => PageFed::Refused(Refusal::ShortRoom),
+        Some(page) => made_again(page),
+        None => Err(Refusal::ShortRoom),
     }
 }
 
 // Nor of a header page.
-fn of_header(fed: HeaderFed) -> PageFed
+fn of_header(fed: Option<Result<PageFed, Refusal>>) -> Result<PageFed, Refusal>
     ensures { (t : Told Taken) → told_header fed ≡ some t → told_page result ≡ t }
 {
     match fed {
-        HeaderFed::Page(page) => made_again(page),
-        HeaderFed::NotHeader => PageFed::Refused(Refusal::ShortRoom),
+        Some(page) => made_again(page),
+        None => Err(Refusal::ShortRoom),
     }
 }
 
@@ -115,7 +115,7 @@ fn feed_due(
     lengths: &mut [u64],
     kept: &mut [u64],
     frames: &mut [u64],
-) -> PageFed
+) -> Result<PageFed, Refusal>
     ensures { (crc : Bytes → ℕ) (core : Before) (b : Bytes) →
         AwaitsParts (readings crc) core due h tally (at_entry carry ends lengths kept frames) b
         lacing.now body.now →
@@ -135,29 +135,25 @@ fn feed_due(
 fn feed_read(
     core: Core,
     tally: Tally,
-    read: PageRead,
+    read: Result<PageHeader, Refusal>,
     page: &[u8],
     carry: &mut [u8],
     ends: &mut [u64],
     lengths: &mut [u64],
     kept: &mut [u64],
     frames: &mut [u64],
-) -> PageFed
+) -> Result<PageFed, Refusal>
     ensures { (crc : Bytes → ℕ) →
         Unrefused crc core read page.now (at_entry carry ends lengths kept frames) →
         Feeds (readings crc) (reader_of core tally) page.now
         (at_entry carry ends lengths kept frames) (told_page result) (at_exit carry ends lengths kept frames) }
 {
-    match page_due(core, read) {
-        Due::Page(due, h) => {
-            let lacing = page_layout::lacing_of(page);
-            let body = page_layout::body_of(page);
-            feed_due(
-                due, tally, h, lacing, body, carry, ends, lengths, kept, frames,
-            )
-        }
-        Due::Refused(why) => PageFed::Refused(why),
-    }
+    let due = page_due(core, read)?;
+    let lacing = page_layout::lacing_of(page);
+    let body = page_layout::body_of(page);
+    feed_due(
+        due.core, tally, due.header, lacing, body, carry, ends, lengths, kept, frames,
+    )
 }
 
 // Feeds one page to the core of a reader: the next one and the page's own record, or a refusal of 1 to 19, which leaves the
@@ -174,25 +170,21 @@ pub fn feed_core(
     lengths: &mut [u64],
     kept: &mut [u64],
     frames: &mut [u64],
-) -> PageFed
+) -> Result<PageFed, Refusal>
     ensures { Feeds (readings page_crc) (reader_of core tally) page.now
         (at_entry carry ends lengths kept frames) (told_page result) (at_exit carry ends lengths kept frames) }
 {
     let phase = core.phase;
-    match check_unread(
+    check_unread(
         phase,
         carry.len(),
         ends.len(),
         lengths.len(),
         kept.len(),
         frames.len(),
-    ) {
-        Checked::Passed => {
-            let read = page_reader::read_page(page);
-            feed_read(core, tally, read, page, carry, ends, lengths, kept, frames)
-        }
-        Checked::Refused(why) => PageFed::Refused(why),
-    }
+    )?;
+    let read = page_reader::read_page(page);
+    feed_read(core, tally, read, page, carry, ends, lengths, kept, frames)
 }
 
 // The same as `feed_core`, by lent tables: those of `page_crc_tables::table::tables` give the checksum, and others what they
@@ -208,25 +200,21 @@ pub fn feed_core_with(
     lengths: &mut [u64],
     kept: &mut [u64],
     frames: &mut [u64],
-) -> PageFed
+) -> Result<PageFed, Refusal>
     ensures { Feeds (readings (page_sliced (entry_in tables.now))) (reader_of core tally) page.now
         (at_entry carry ends lengths kept frames) (told_page result) (at_exit carry ends lengths kept frames) }
 {
     let phase = core.phase;
-    match check_unread(
+    check_unread(
         phase,
         carry.len(),
         ends.len(),
         lengths.len(),
         kept.len(),
         frames.len(),
-    ) {
-        Checked::Passed => {
-            let read = page_reader::read_page_with(tables, page);
-            feed_read(core, tally, read, page, carry, ends, lengths, kept, frames)
-        }
-        Checked::Refused(why) => PageFed::Refused(why),
-    }
+    )?;
+    let read = page_reader::read_page_with(tables, page);
+    feed_read(core, tally, read, page, carry, ends, lengths, kept, frames)
 }
 
 // Feeds a page that is known to pass 3 and 4, by its parts: its fields, its lacing values and its body. Of any bytes that are
@@ -245,27 +233,23 @@ pub fn feed_parts(
     lengths: &mut [u64],
     kept: &mut [u64],
     frames: &mut [u64],
-) -> PageFed
+) -> Result<PageFed, Refusal>
     ensures { (crc : Bytes → ℕ) (b : Bytes) →
         PartsOf crc b h lacing.now body.now →
         Feeds (readings crc) (reader_of core tally) b
         (at_entry carry ends lengths kept frames) (told_page result) (at_exit carry ends lengths kept frames) }
 {
     let before = core.phase;
-    match check_unread(
+    check_unread(
         before,
         carry.len(),
         ends.len(),
         lengths.len(),
         kept.len(),
         frames.len(),
-    ) {
-        Checked::Passed => match page_due(core, PageRead::Page(h)) {
-            Due::Page(due, fields) => feed_due(
-                due, tally, fields, lacing, body, carry, ends, lengths, kept, frames,
-            ),
-            Due::Refused(why) => PageFed::Refused(why),
-        },
-        Checked::Refused(why) => PageFed::Refused(why),
-    }
+    )?;
+    let due = page_due(core, Ok(h))?;
+    feed_due(
+        due.core, tally, due.header, lacing, body, carry, ends, lengths, kept, frames,
+    )
 }

@@ -1,5 +1,5 @@
 -- One page fed with the parts of the lists past the places filled, and the whole lists again. Assumes nothing.
-use Prim.Native.Nat.{ℕ, ◌+◌, ◌-◌, ◌≤◌}
+use Prim.Native.Nat.{ℕ, ◌-◌, ◌≤◌}
 use mathlib.Core.Path.{◌≡◌, sym, ◌∙◌}
 use mathlib.Core.Bool.{false, true}
 use mathlib.Core.List.{List, ◌++◌, append-nil}
@@ -8,7 +8,7 @@ use native.Mathlib.Omega.{arith}
 use lib.ListN.{length, take, drop, length-drop, drop_of_length-le}
 use lib.Seq.{take_all}
 use Rattle.octets.specs.Octets.{Bytes, Octets}
-use Rattle.refusal.specs.Told.{Told, gives, refuses}
+use Rattle.refusal.specs.Told.{Told, gives}
 use Rattle.stream.specs.declared.Counts.{Counts}
 use Rattle.stream.specs.Readings.{Readings}
 use Rattle.stream.specs.Feed.{Reader as Known, Taken, FedIs, feed}
@@ -16,7 +16,7 @@ use Rattle.stream.specs.Lent.{Lent, lent_of}
 use Rattle.reader.specs.Answers.{known_as}
 use Rattle.page_end.specs.End.{end_at}
 use Rattle.feed_pages.specs.declared.Progress.{Progress}
-use Rattle.feed_pages.specs.Run.{is_full, past, whole, cut, full, stops, after, turn, Inside}
+use Rattle.feed_pages.specs.Run.{is_full, past, cut, full, stops, after, turn, Inside}
 use Rattle.feed_pages.specs.Answers.{reached}
 use Rattle.feed_pages.proofs.Turns.{shows}
 

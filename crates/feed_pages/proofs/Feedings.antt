@@ -1,27 +1,26 @@
 -- A run feeds a list of feedings: all that is known of such lists holds of it. Assumes nothing.
 use Prim.Native.Nat.{ℕ, zero, suc, ◌+◌, ◌-◌, ◌≤◌, ◌<◌}
-use mathlib.Core.Path.{◌≡◌, refl, sym, ap, subst, ◌∙◌}
+use mathlib.Core.Path.{◌≡◌, refl, sym, ap, ◌∙◌}
 use mathlib.Core.Bool.{Bool, true, false}
 use mathlib.Core.List.{List, [], ◌∷◌, ◌++◌, map, append-nil, append_assoc}
 use mathlib.Core.Option.{Option, none, some}
 use native.Mathlib.Omega.{arith}
-use lib.ListN.{length, take, drop, replicate, length-append, length-take, length-map}
+use lib.ListN.{length, take, replicate, length-append, length-map}
 use lib.Seq.{take_at, take-add, length-take-le, take-append-add}
 use Rattle.octets.specs.Pick.{pick}
 use Rattle.octets.specs.Octets.{Bytes, Octets}
 use Rattle.refusal.specs.Told.{Told, gives, refuses}
 use Rattle.page_end.specs.End.{end_at}
 use Rattle.page_end.proofs.Ends.{end-inside}
-use Rattle.stream.specs.declared.Counts.{Counts}
 use Rattle.stream.specs.Readings.{Readings}
-use Rattle.stream.specs.Feed.{Reader, Entry, Taken, Fed, feed}
+use Rattle.stream.specs.Feed.{Reader, Entry, Taken, Fed}
 use Rattle.stream.specs.Lent.{Lent, is_short}
 use Rattle.stream.specs.Feedings.{Feeding, feed_in, reader_by, reader_after, finally, left_in, carry_left, HandedOn, Shown, show_as, stream, bytes_of}
 use Rattle.stream.specs.Statements.{HasFirst, Shows}
 use Rattle.stream.proofs.Step.{feeds-short}
-use Rattle.feed_pages.specs.Run.{is_full, past, whole, Reached, Why, refused, cut, full, Turn, goes, stops, after, fed_to, turn_to, turn, Ended, follow, runs, started, feed_pages, Inside}
-use Rattle.feed_pages.specs.Feedings.{feeding_to, later_of, feedings_to, feedings_of, run_feedings, refusal_in, numbers_of, last_number, together, entries_of}
-use Rattle.feed_pages.specs.Statements.{RunIs, RunFeeds}
+use Rattle.feed_pages.specs.Run.{is_full, past, whole, Reached, Why, refused, cut, full, stops, after, turn_to, turn, Ended, follow, runs, started, feed_pages, Inside}
+use Rattle.feed_pages.specs.Feedings.{feeding_to, later_of, feedings_to, feedings_of, run_feedings, numbers_of, last_number, together, entries_of}
+use Rattle.feed_pages.specs.Statements.{RunFeeds}
 use Rattle.feed_pages.proofs.Turns.{shows, after-goes}
 use Rattle.feed_pages.proofs.Runs.{begun}
 

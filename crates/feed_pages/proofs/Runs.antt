@@ -9,7 +9,7 @@ use Rattle.stream.specs.Feed.{Reader}
 use Rattle.stream.specs.Lent.{Lent}
 use Rattle.feed_pages.specs.Run.{Reached, Turn, goes, stops, turn, follow, runs, started, feed_pages, Inside}
 use Rattle.feed_pages.specs.Statements.{EnoughTurns, RunFits}
-use Rattle.feed_pages.proofs.Turns.{Onward, turn-onward, turn-stops}
+use Rattle.feed_pages.proofs.Turns.{turn-onward, turn-stops}
 
 module _ (R : Readings) (b : Bytes) (o : Octets b) where
   same : (n k : ℕ) (a : Reached) (m : Lent) → Inside a b m → length b - a.bytes < n → length b - a.bytes < k → runs n R b a m ≡ runs k R b a m

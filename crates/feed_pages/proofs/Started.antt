@@ -4,8 +4,6 @@ use mathlib.Core.Bool.{Bool, true, false}
 use mathlib.Core.List.{List, [], ◌∷◌}
 use lib.ListN.{take}
 use Rattle.octets.specs.Pick.{pick}
-use Rattle.octets.specs.Octets.{Bytes}
-use Rattle.stream.specs.Readings.{Readings}
 use Rattle.stream.specs.Feed.{Reader, start, Fed}
 use Rattle.stream.specs.Lent.{is_short}
 use Rattle.stream.specs.Feedings.{Feeding, feed_in, reader_by, reader_after, finally, held_of, left_in, carry_left, HandedOn, stream}
@@ -14,7 +12,7 @@ use Rattle.stream.proofs.Step.{feeds-short, take-held}
 use Rattle.stream.proofs.Theorem1.{stream-state}
 use Rattle.feed_pages.specs.Run.{Ended, feed_pages}
 use Rattle.feed_pages.specs.Feedings.{run_feedings}
-use Rattle.feed_pages.specs.Statements.{HandedAlike, HeldCounts, StartedIs, StartedRun}
+use Rattle.feed_pages.specs.Statements.{HeldCounts, StartedRun}
 use Rattle.feed_pages.proofs.Feedings.{run_feeds}
 
 pub held-counts : HeldCounts

@@ -1,6 +1,6 @@
 -- A run that goes on stays within its buffer and its lists. Assumes nothing.
 use Prim.Native.Nat.{ℕ, suc, ◌+◌, ◌-◌, ◌≤◌, ◌<◌}
-use mathlib.Core.Path.{◌≡◌, refl, sym, ap, ◌∙◌}
+use mathlib.Core.Path.{◌≡◌, refl, sym, ap}
 use mathlib.Core.Bool.{Bool, true, false}
 use mathlib.Core.List.{List, ◌++◌, map}
 use mathlib.Core.Option.{Option, none, some}
@@ -17,7 +17,7 @@ use Rattle.stream.specs.Statements.{HasFirst, Shows}
 use Rattle.stream.proofs.Lists.{accepted-shows}
 use Rattle.page_end.specs.End.{end_at}
 use Rattle.page_end.proofs.Ends.{end-inside}
-use Rattle.feed_pages.specs.Run.{is_full, past, whole, Reached, Why, Turn, goes, stops, full, after, turn_to, turn, runs, follow, Inside}
+use Rattle.feed_pages.specs.Run.{is_full, past, whole, Reached, Why, goes, stops, full, after, turn_to, turn, runs, Inside}
 
 -- stopping is not going on
 stops-goes : {A : Type 0} {why : Why} {m n : Lent} {a : Reached} → stops why m ≡ goes a n → A

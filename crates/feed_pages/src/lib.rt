@@ -11,10 +11,10 @@ ghost use Rattle.feed_numbers.specs.Numbers.{reader_from};
 ghost use Rattle.reader.specs.Answers.{known_as};
 ghost use Rattle.feed_pages.specs.Run.{Inside, turn as turnBy, feed_pages};
 ghost use Rattle.feed_pages.specs.Answers.{reached, told_turn, told_run};
+ghost use Rattle.feed_pages.specs.declared.Stop.TheVariants.{Refused};
 ghost use Rattle.feed_pages.specs.State.{numbers_reached, run_from, StateRun};
 
-use page_end::End;
-use reader::{Fed, Reader};
+use reader::Reader;
 use refusal::Refusal;
 
 // How far a run has come: the reader after the pages accepted, their bytes, how many they are, and how many places of each
@@ -38,19 +38,21 @@ pub enum Stop {
     Full,
 }
 
+impl From<Refusal> for Stop {
+    ghost from_gives = { λ why stop. stop ≡ Refused why };
+
+    fn from(why: Refusal) -> Stop {
+        Stop::Refused(why)
+    }
+}
+
 #[derive(Clone, Copy)]
 pub struct PagesFed {
     pub progress: Progress,
     pub stop: Stop,
 }
 
-#[derive(Clone, Copy)]
-enum Turn {
-    Goes(Progress),
-    Stops(Stop),
-}
-
-// Feeds the next page.
+// Feeds the next page: how far the run has then come, or why it stops.
 fn feed_next(
     tables: &[u32; 4096],
     p: Progress,
@@ -60,7 +62,7 @@ fn feed_next(
     lengths: &mut [u64],
     kept: &mut [u64],
     frames: &mut [u64],
-) -> Turn
+) -> Result<Progress, Stop>
     requires { Inside (reached p) buffer.now (lent_of carry.old ends.old lengths.old kept.old frames.old) }
     ensures { told_turn result (at_exit carry ends lengths kept frames)
         ≡ turnBy (readings (page_sliced (entry_in tables.now))) buffer.now
@@ -75,29 +77,27 @@ fn feed_next(
         kept.len() - n,
         frames.len() - n,
     ) {
-        return Turn::Stops(Stop::Full);
+        return Err(Stop::Full);
     }
-    match page_end::end_at(buffer, at) {
-        End::Cut => Turn::Stops(Stop::Cut),
-        End::At(end) => match reader::feed_with(
-            tables,
-            reader,
-            &buffer[at..end],
-            carry,
-            &mut ends[n..],
-            &mut lengths[n..],
-            &mut kept[n..],
-            &mut frames[n..],
-        ) {
-            Fed::Accepted(next, counts) => Turn::Goes(Progress {
-                reader: next,
-                bytes: end,
-                pages: p.pages + 1,
-                packets: n + counts.packets as usize,
-            }),
-            Fed::Refused(why) => Turn::Stops(Stop::Refused(why)),
-        },
-    }
+    let Some(end) = page_end::end_at(buffer, at) else {
+        return Err(Stop::Cut);
+    };
+    let fed = reader::feed_with(
+        tables,
+        reader,
+        &buffer[at..end],
+        carry,
+        &mut ends[n..],
+        &mut lengths[n..],
+        &mut kept[n..],
+        &mut frames[n..],
+    )?;
+    Ok(Progress {
+        reader: fed.reader,
+        bytes: end,
+        pages: p.pages + 1,
+        packets: n + fed.counts.packets as usize,
+    })
 }
 
 // By lent tables, so that a turn makes none.
@@ -123,8 +123,8 @@ fn run(
     };
     loop {
         match feed_next(tables, progress, buffer, carry, ends, lengths, kept, frames) {
-            Turn::Goes(next) => progress = next,
-            Turn::Stops(stop) => return PagesFed { progress, stop },
+            Ok(next) => progress = next,
+            Err(stop) => return PagesFed { progress, stop },
         }
     }
 }

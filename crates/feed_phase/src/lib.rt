@@ -12,13 +12,7 @@ use stream::Phase;
 pub fn is_first(phase: Phase) -> bool
     ensures { result ≡ is_first phase }
 {
-    match phase {
-        Phase::First => true,
-        Phase::Comment => false,
-        Phase::Audio => false,
-        Phase::Opened => false,
-        Phase::Ended => false,
-    }
+    matches!(phase, Phase::First)
 }
 
 // Whether the comment header is not complete yet (RULES.md, 7).
@@ -26,13 +20,7 @@ pub fn is_first(phase: Phase) -> bool
 pub fn in_headers(phase: Phase) -> bool
     ensures { result ≡ in_headers phase }
 {
-    match phase {
-        Phase::First => true,
-        Phase::Comment => true,
-        Phase::Audio => false,
-        Phase::Opened => false,
-        Phase::Ended => false,
-    }
+    matches!(phase, Phase::First | Phase::Comment)
 }
 
 // Whether the stream is among its audio pages (RULES.md, 7): the comment header is complete, or a page came after opening part
@@ -41,13 +29,7 @@ pub fn in_headers(phase: Phase) -> bool
 pub fn is_audio(phase: Phase) -> bool
     ensures { result ≡ is_audio phase }
 {
-    match phase {
-        Phase::First => false,
-        Phase::Comment => false,
-        Phase::Audio => true,
-        Phase::Opened => false,
-        Phase::Ended => false,
-    }
+    matches!(phase, Phase::Audio)
 }
 
 // Whether the last page accepted was marked last, so that 2 holds (RULES.md, 2).
@@ -55,11 +37,5 @@ pub fn is_audio(phase: Phase) -> bool
 pub fn is_ended(phase: Phase) -> bool
     ensures { result ≡ is_ended phase }
 {
-    match phase {
-        Phase::First => false,
-        Phase::Comment => false,
-        Phase::Audio => false,
-        Phase::Opened => false,
-        Phase::Ended => true,
-    }
+    matches!(phase, Phase::Ended)
 }

@@ -10,12 +10,11 @@ use head_fields::Head;
 use refusal::Refusal;
 use stream::{Core, Pending, Phase, Tally};
 
+// The core and tally of a reader opened part way.
 #[derive(Clone, Copy)]
-pub enum CoreOpened {
-    // the core and tally of a reader opened part way
-    At(Core, Tally),
-    // 23
-    Refused(Refusal),
+pub struct CoreOpened {
+    pub core: Core,
+    pub tally: Tally,
 }
 
 // The core of a reader that waits for the first page of a stream (RULES.md, 7). It refuses nothing.
@@ -51,11 +50,11 @@ pub fn no_tally() -> Tally
 // The core and tally of a reader opened part way, in a stream with this header. 23: no reading gives
 // these fields, by `head_fields::right_head` (RULES.md, 9).
 // Example: right fields with 1 stream and pre-skip 312 give a core with these two, and a tally of zeros.
-pub fn open_core(head: Head) -> CoreOpened
+pub fn open_core(head: Head) -> Result<CoreOpened, Refusal>
     ensures { told_opened result ≡ open_part_way head }
 {
     if !head_fields::right_head(head) {
-        return CoreOpened::Refused(Refusal::UnfitFields);
+        return Err(Refusal::UnfitFields);
     }
     let core = Core {
         phase: Phase::Opened,
@@ -67,5 +66,5 @@ pub fn open_core(head: Head) -> CoreOpened
         preskip: head.preskip,
     };
     let tally = no_tally();
-    CoreOpened::At(core, tally)
+    Ok(CoreOpened { core, tally })
 }

@@ -1,7 +1,8 @@
 -- The granule position of an audio page (RULES.md, 8 and 9, refusals 11, 19, 18 and 17; RFC 7845, 4). G is its granule, D the
 -- samples of the packets that complete there. Feeding judges a G of at most 2^63 - 1 only (11); the rules here are for every
 -- number. Assumes nothing.
-use Rattle.std.specs.Prelude.{ℕ, ◌+◌, ◌-◌, ◌^◌, Bool, true, false, not, ◌&&◌, List, [], ◌∷◌, ltb, eqb}
+use Rattle.refusal.specs.declared.Refusal.{Refusal}
+use Rattle.std.specs.Prelude.{Result, Ok, Err, ℕ, ◌+◌, ◌-◌, ◌^◌, Bool, true, false, not, ◌&&◌, List, [], ◌∷◌, ltb, eqb}
 use Rattle.octets.specs.Pick.{pick}
 use Rattle.refusal.specs.declared.Refusal.TheVariants.{NoPosition, BelowPreSkip, GranuleTooSmall}
 use Rattle.refusal.specs.Checks.{Check, ◌when◌, first_of}
@@ -10,8 +11,6 @@ use Rattle.refusal.specs.Numbers.{number_of}
 use Rattle.granule.specs.declared.Position.{Position}
 use Rattle.granule.specs.declared.Position.TheVariants.{Unset, Joined, At}
 use Rattle.granule.specs.declared.Placed.{Placed as Place}
-use Rattle.granule.specs.declared.Judged.{Judged}
-use Rattle.granule.specs.declared.Judged.TheVariants.{Placed, Refused}
 use Rattle.granule.specs.Samples.{trimmed_of}
 
 abbrev pub is_unset : Position → Bool
@@ -76,8 +75,3 @@ placed position last g d = record {
 
 unfoldable pub judge : Position → ℕ → ℕ → ℕ → Bool → Told Place
 judge position preskip g d last = decided (first_of (judge_checks position preskip g d last)) (placed position last g d)
-
--- what the code's answer tells
-abbrev pub told_judged : Judged → Told Place
-told_judged (Placed p) = gives p
-told_judged (Refused r) = refuses (number_of r)

@@ -1,9 +1,10 @@
 // "Stamps and cuts" of an Ogg Opus stream (RFC 7845, 4) as arithmetic on one page.
 #![tactic(auto)]
 
-ghost use Rattle.std.specs.Prelude.{◌≡◌, ◌-◌, min};
+ghost use Rattle.refusal.specs.Told.{told};
+ghost use Rattle.std.specs.Prelude.{◌≡◌};
 ghost use Rattle.granule.specs.Samples.{kept_of};
-ghost use Rattle.granule.specs.Judging.{granule_wrong, told_judged, judge as judged};
+ghost use Rattle.granule.specs.Judging.{granule_wrong, judge as judged};
 ghost use Rattle.granule.specs.Code.{first_place};
 ghost use Rattle.granule.specs.declared.Position.TheVariants.{Unset as NoneYet, Joined as PartWay, At as Known};
 
@@ -30,13 +31,6 @@ pub struct Placed {
     pub from: u64,
 }
 
-#[derive(Clone, Copy)]
-pub enum Judged {
-    Placed(Placed),
-    // 19, 18 or 17
-    Refused(Refusal),
-}
-
 // The largest granule position of an audio page.
 pub const GRANULE_MAX: u64 = 9223372036854775807;
 
@@ -52,80 +46,67 @@ pub fn wrong_granule(most: u64, completes: bool, g: u64) -> bool
     if completes { g > most } else { g != NO_GRANULE }
 }
 
-// The difference, 0 where it would be below.
-fn minus(a: u64, b: u64) -> u64
-    ensures { result ≡ a - b }
-{
-    if a < b { 0 } else { a - b }
-}
-
-fn least(a: u64, b: u64) -> u64
-    ensures { result ≡ min a b }
-{
-    if a < b { a } else { b }
-}
-
 // The first page with an audio packet that a reader sees, where it is not refused.
 fn place_first(g: u64, d: u64) -> Placed
     ensures { result ≡ first_place g d }
 {
-    let at = minus(g, d);
+    let at = g.saturating_sub(d);
     Placed {
         before: at,
         hole: 0,
-        trimmed: minus(d, g),
+        trimmed: d.saturating_sub(g),
         from: at,
     }
 }
 
-fn judge_unset(preskip: u16, g: u64, d: u32, last: bool) -> Judged
-    ensures { told_judged result ≡ judged NoneYet preskip g d last }
+fn judge_unset(preskip: u16, g: u64, d: u32, last: bool) -> Result<Placed, Refusal>
+    ensures { told result ≡ judged NoneYet preskip g d last }
 {
     if last {
         if g < preskip as u64 {
-            return Judged::Refused(Refusal::BelowPreSkip);
+            return Err(Refusal::BelowPreSkip);
         }
-        return Judged::Placed(place_first(g, d as u64));
+        return Ok(place_first(g, d as u64));
     }
     if g < d as u64 {
-        return Judged::Refused(Refusal::GranuleTooSmall);
+        return Err(Refusal::GranuleTooSmall);
     }
-    Judged::Placed(place_first(g, d as u64))
+    Ok(place_first(g, d as u64))
 }
 
-fn judge_joined(preskip: u16, g: u64, d: u32, last: bool) -> Judged
-    ensures { told_judged result ≡ judged PartWay preskip g d last }
+fn judge_joined(preskip: u16, g: u64, d: u32, last: bool) -> Result<Placed, Refusal>
+    ensures { told result ≡ judged PartWay preskip g d last }
 {
     if last {
-        return Judged::Refused(Refusal::NoPosition);
+        return Err(Refusal::NoPosition);
     }
     if g < d as u64 {
-        return Judged::Refused(Refusal::GranuleTooSmall);
+        return Err(Refusal::GranuleTooSmall);
     }
-    Judged::Placed(place_first(g, d as u64))
+    Ok(place_first(g, d as u64))
 }
 
 // `p` is at most `g`, and nothing is added to it, so that no value overflows.
-fn judge_at(p: u64, preskip: u16, g: u64, d: u32, last: bool) -> Judged
-    ensures { told_judged result ≡ judged (Known p) preskip g d last }
+fn judge_at(p: u64, preskip: u16, g: u64, d: u32, last: bool) -> Result<Placed, Refusal>
+    ensures { told result ≡ judged (Known p) preskip g d last }
 {
     if g < p {
-        return Judged::Refused(Refusal::GranuleTooSmall);
+        return Err(Refusal::GranuleTooSmall);
     }
     let reach = g - p;
     let size = d as u64;
     if reach < size {
         if last {
-            return Judged::Placed(Placed {
+            return Ok(Placed {
                 before: p,
                 hole: 0,
                 trimmed: size - reach,
                 from: p,
             });
         }
-        return Judged::Refused(Refusal::GranuleTooSmall);
+        return Err(Refusal::GranuleTooSmall);
     }
-    Judged::Placed(Placed {
+    Ok(Placed {
         before: p,
         hole: reach - size,
         trimmed: 0,
@@ -137,8 +118,14 @@ fn judge_at(p: u64, preskip: u16, g: u64, d: u32, last: bool) -> Judged
 // 19: it is marked last, and the position is `Joined`. 18: it is marked last, the position is `Unset`, and `g` is below the
 // pre-skip. 17: neither, and `g` is below P + `d`, P being 0 where there is none; on a page marked last, below P.
 // Example: at `Position::At(960)` a page with `g` of 1920 and `d` of 960 has no hole, and its stamps run from 960.
-pub fn judge(position: Position, preskip: u16, g: u64, d: u32, last: bool) -> Judged
-    ensures { told_judged result ≡ judged position preskip g d last }
+pub fn judge(
+    position: Position,
+    preskip: u16,
+    g: u64,
+    d: u32,
+    last: bool,
+) -> Result<Placed, Refusal>
+    ensures { told result ≡ judged position preskip g d last }
 {
     match position {
         Position::Unset => judge_unset(preskip, g, d, last),
@@ -153,9 +140,9 @@ pub fn kept(at: u64, samples: u32, skip: u16, g: u64, last: bool) -> u64
     ensures { result ≡ kept_of skip last g at samples }
 {
     let all = samples as u64;
-    let low = least(skip as u64, all);
+    let low = (skip as u64).min(all);
     if last {
-        return minus(least(minus(g, at), all), low);
+        return g.saturating_sub(at).min(all).saturating_sub(low);
     }
-    minus(all, low)
+    all.saturating_sub(low)
 }

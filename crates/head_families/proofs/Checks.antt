@@ -2,15 +2,10 @@
 -- nothing.
 use mathlib.Core.Path.{◌≡◌}
 use mathlib.Core.Bool.{true, false}
-use Prim.Native.Nat.{ℕ, ◌+◌, ◌≤◌, ◌<◌}
-use native.Mathlib.Numerals.{add-one}
-use borrow.Author.Tests.{eq-eqb, ne_eqb, le-leb, lt-leb}
+use Prim.Native.Nat.{ℕ, ◌≤◌, ◌<◌}
+use borrow.Author.Tests.{ne_eqb, le-leb, lt-leb}
 use lib.Dec.{leb}
-use lib.ListN.{length, get_or, drop}
-use lib.Seq.{drop-cons}
-use Rattle.octets.specs.Octets.{Bytes}
 use Rattle.head_families.specs.Families.{ambisonic_channels, is_ambisonic, most_channels, allowed_channels}
-use Rattle.head_families.specs.Listed.{is_listed}
 
 -- how many channels a family allows
 pub most_other : {family : ℕ} → (family ≡ 0 → ⊥) → (family ≡ 1 → ⊥) → (family ≡ 255 → ⊥) → most_channels family ≡ 0
@@ -32,13 +27,3 @@ module _ (family channels : ℕ) where
       → allowed_channels family channels ≡ leb channels most
   unfolding allowed_channels
   most_decides h a e = rw (le-leb 1 channels h, a, e)
-
--- one number of a list
-module _ (n : ℕ) (s : Bytes) (i : ℕ) (in_s : i < length s) where
-  pub found_number : get_or s i 0 ≡ n → is_listed n (drop i s) ≡ true
-  unfolding is_listed
-  found_number e = rw (drop-cons s i 0 in_s, eq-eqb (get_or s i 0) n e)
-
-  pub other-number : (get_or s i 0 ≡ n → ⊥) → is_listed n (drop (i + 1) s) ≡ is_listed n (drop i s)
-  unfolding is_listed
-  other-number e = rw (add-one i, drop-cons s i 0 in_s, ne_eqb (get_or s i 0) n e)

@@ -1,15 +1,23 @@
 -- The list of the numbers that pass a test, in order: a number is in it where it passes. Assumes nothing.
 use mathlib.Core.Path.{◌≡◌, refl, ap, ◌∙◌}
-use mathlib.Core.Bool.{Bool, true, false}
+use mathlib.Core.Bool.{Bool, true, false, ◌||◌}
 use mathlib.Core.List.{[], ◌∷◌}
 use mathlib.Core.Logic.{⊎_elim}
 use Prim.Native.Nat.{ℕ, zero, suc, ◌+◌, ◌≤◌, ◌<◌}
 use native.Mathlib.Nat.{eq-or-lt_of_le}
 use native.Mathlib.Omega.{arith}
+use lib.Dec.{eqb}
+use Rattle.std.specs.List.{list_any}
 use borrow.Author.Tests.{eq-eqb, ne_eqb}
 use Rattle.octets.specs.Pick.{pick}
 use Rattle.octets.specs.Octets.{Bytes}
 use Rattle.head_families.specs.Listed.{is_listed}
+
+-- a number is in a list, in the library's words
+pub any_listed : (n : ℕ) (s : Bytes) → list_any (λ (i : ℕ). eqb i n) s ≡ is_listed n s
+unfolding is_listed
+any_listed n [] = refl
+any_listed n (i ∷ s) = ap (λ (t : Bool). eqb i n || t) (any_listed n s)
 
 -- those of n numbers from c on that pass
 abbrev pub passing : (ℕ → Bool) → ℕ → ℕ → Bytes

@@ -4,7 +4,6 @@
 ghost use Rattle.std.specs.Prelude.{◌≡◌};
 ghost use Rattle.head_families.specs.Families.{ambisonic_channels, allowed_channels};
 ghost use Rattle.head_families.specs.Families.{has_counts, has_matrix, IndexCount, matrix_length};
-ghost use Rattle.head_families.specs.Listed.{is_listed};
 
 // The numbers of ambisonic channels, (1 + n)^2 + 2j (RFC 8486, 3.1).
 const AMBISONIC: [u8; 30] = [
@@ -80,24 +79,10 @@ pub fn matrix_length(family: u8, streams: u8, coupled: u8, channels: u8) -> usiz
     2 * (decoded * octets::wide(channels))
 }
 
-fn is_listed(number: u8, s: &[u8]) -> bool
-    ensures { result ≡ is_listed number s.now }
-{
-    let mut i = 0;
-    while i < s.len() {
-        if s[i] == number {
-            return true;
-        }
-        i += 1;
-    }
-    false
-}
-
 fn ambisonic_channels(channels: u8) -> bool
     ensures { result ≡ ambisonic_channels channels }
 {
-    let list = AMBISONIC;
-    is_listed(channels, &list)
+    AMBISONIC.contains(&channels)
 }
 
 // Whether a family allows so many channels (RULES.md, 4). Families 0, 1, 2, 3 and 255 are known, and any other allows none.

@@ -1,44 +1,32 @@
 -- When the fields of a header are right, by the tests in the order of the code: each law is one way through. Assumes nothing.
-use mathlib.Core.Path.{◌≡◌, refl}
+use mathlib.Core.Path.{◌≡◌, refl, ap}
 use mathlib.Core.Bool.{Bool, true, false, ◌&&◌}
+use mathlib.Core.List.{[], ◌∷◌}
+use Rattle.std.specs.List.{list_all}
 use Prim.Native.Nat.{ℕ, ◌+◌, ◌-◌, ◌≤◌, ◌<◌, min}
-use native.Mathlib.Numerals.{add-one}
 use native.Mathlib.Omega.{arith}
-use borrow.Author.Tests.{eq-eqb, ne_eqb, lt-ltb, le-ltb, le-leb, lt-leb}
+use borrow.Author.Tests.{eq-eqb, ne_eqb, le-leb, lt-leb}
 use lib.Dec.{eqb, leb}
-use lib.ListN.{length, get_or, take, drop, length-drop}
-use lib.Seq.{drop-cons, take_all}
+use lib.ListN.{length, take, drop, length-drop}
+use lib.Seq.{take_all}
 use Rattle.octets.specs.Octets.{Bytes, begins}
 use Rattle.octets.proofs.Parts.{take_min}
 use Rattle.head_fields.specs.declared.Head.{Head}
 use Rattle.head_families.specs.Families.{allowed_channels, has_counts}
 use Rattle.head_fields.specs.Layout.{fits_packet, head_size, used_count}
 use Rattle.head_fields.specs.Right.{plain_indices, unused_places}
-use Rattle.head_fields.specs.Right.{right_indices, all_zero, right_streams, right_plain, right_mapping, right_fields}
+use Rattle.head_fields.specs.Right.{right_index, right_indices, all_zero, right_streams, right_plain, right_mapping, right_fields}
 
--- one index
-module _ (n : ℕ) (s : Bytes) (i : ℕ) (in_s : i < length s) where
-  pub wrong-index : n ≤ get_or s i 0 → (get_or s i 0 ≡ 255 → ⊥) → right_indices n (drop i s) ≡ false
-  unfolding right_indices
-  wrong-index h e = rw (drop-cons s i 0 in_s, le-ltb (get_or s i 0) n h, ne_eqb (get_or s i 0) 255 e)
+-- a test of each of some places, in the words of the definitions
+pub indices : (n : ℕ) (s : Bytes) → list_all (λ (i : ℕ). right_index n i) s ≡ right_indices n s
+unfolding right_indices
+indices n [] = refl
+indices n (i ∷ s) = ap (λ (t : Bool). right_index n i && t) (indices n s)
 
-  pub stream-index : get_or s i 0 < n → right_indices n (drop (i + 1) s) ≡ right_indices n (drop i s)
-  unfolding right_indices
-  stream-index h = rw (add-one i, drop-cons s i 0 in_s, lt-ltb (get_or s i 0) n h)
-
-  pub silence_index : n ≤ get_or s i 0 → get_or s i 0 ≡ 255 → right_indices n (drop (i + 1) s) ≡ right_indices n (drop i s)
-  unfolding right_indices
-  silence_index h e = rw (add-one i, drop-cons s i 0 in_s, le-ltb (get_or s i 0) n h, eq-eqb (get_or s i 0) 255 e)
-
--- one unused place
-module _ (s : Bytes) (i : ℕ) (in_s : i < length s) where
-  pub some-place : (get_or s i 0 ≡ 0 → ⊥) → all_zero (drop i s) ≡ false
-  unfolding all_zero
-  some-place e = rw (drop-cons s i 0 in_s, ne_eqb (get_or s i 0) 0 e)
-
-  pub zero-place : get_or s i 0 ≡ 0 → all_zero (drop (i + 1) s) ≡ all_zero (drop i s)
-  unfolding all_zero
-  zero-place e = rw (add-one i, drop-cons s i 0 in_s, eq-eqb (get_or s i 0) 0 e)
+pub zeros : (s : Bytes) → list_all (λ (i : ℕ). eqb i 0) s ≡ all_zero s
+unfolding all_zero
+zeros [] = refl
+zeros (i ∷ s) = ap (λ (t : Bool). eqb i 0 && t) (zeros s)
 
 and-true : (t : Bool) → t && true ≡ t
 and-true true = refl

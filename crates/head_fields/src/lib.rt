@@ -2,7 +2,7 @@
 #![tactic(auto)]
 
 ghost use Rattle.std.specs.Prelude.{◌≡◌};
-ghost use Rattle.head_fields.specs.Right.{right_streams, right_indices, all_zero};
+ghost use Rattle.head_fields.specs.Right.{right_streams, right_index, right_indices, all_zero};
 ghost use Rattle.head_fields.specs.Right.{readable_version, writable_version, right_length};
 ghost use Rattle.head_fields.specs.Right.{right_plain, right_mapping, right_fields, right_head, writable_head};
 ghost use Rattle.head_fields.specs.Layout.{head_length};
@@ -53,7 +53,8 @@ pub fn writable_version(version: u8) -> bool
 pub fn right_length(version: u8, fields: usize, n: usize) -> bool
     ensures { result ≡ right_length version fields n }
 {
-    if version >= 2 {
+    let extends = version >= 2;
+    if extends {
         return n >= fields;
     }
     n == fields
@@ -73,34 +74,24 @@ fn right_streams(h: Head) -> bool
     coupled + streams <= 255
 }
 
-// Each index is below n, or 255 for silence.
+// An index is below n, or 255 for silence.
+fn right_index(n: usize, index: u8) -> bool
+    ensures { result ≡ right_index n index }
+{
+    (octets::wide(index) < n) | (index == 255)
+}
+
+// Each index is right.
 fn right_indices(n: usize, s: &[u8]) -> bool
     ensures { result ≡ right_indices n s.now }
 {
-    let mut i = 0;
-    while i < s.len() {
-        let index = octets::wide(s[i]);
-        if index >= n {
-            if index != 255 {
-                return false;
-            }
-        }
-        i += 1;
-    }
-    true
+    s.iter().all(|index| right_index(n, *index))
 }
 
 fn all_zero(s: &[u8]) -> bool
     ensures { result ≡ all_zero s.now }
 {
-    let mut i = 0;
-    while i < s.len() {
-        if s[i] != 0 {
-            return false;
-        }
-        i += 1;
-    }
-    true
+    s.iter().all(|place| *place == 0)
 }
 
 // Whether the channel mapping is right (RULES.md, 4): the family allows so many channels, the numbers of streams are right,

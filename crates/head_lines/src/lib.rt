@@ -69,6 +69,7 @@ fn lay_spaced(out: &mut [u8], s: &[u8]) -> usize
     ensures { Laid out.old 0 (spaced s.now) result out.new }
 {
     let mut place = 0;
+    // stays: the edit `every_other_index` steps this counter by 2
     let mut i = 0;
     while i < s.len() {
         place = lay_index(out, place, s[i]);

@@ -1,4 +1,6 @@
 -- What a size that was read, or a refusal, says of the matrix and of its entries. Assumes nothing.
+use Rattle.std.specs.Prelude.{Result, Ok, Err}
+use Rattle.std.specs.Result.{result_unwrap_or}
 use mathlib.Core.Path.{◌≡◌, refl, sym, ap, ◌∙◌}
 use mathlib.Core.Option.{Option, none, some}
 use mathlib.Core.List.{[]}
@@ -11,7 +13,7 @@ use Rattle.refusal.specs.declared.Refusal.{Refusal}
 use Rattle.refusal.specs.declared.Refusal.TheVariants.{NoSuchPart}
 use Rattle.refusal.specs.Checks.{first_of, or_else}
 use Rattle.refusal.specs.Numbers.{number_of}
-use Rattle.refusal.specs.Told.{gives, refuses, retold, decided}
+use Rattle.refusal.specs.Told.{gives, refuses, retold, decided, told}
 use Rattle.refusal.proofs.Checks.{first_of-append, no_refusal}
 use Rattle.head_fields.specs.declared.Head.{Head}
 use Rattle.head_fields.specs.Layout.{matrix_place, matrix_size}
@@ -57,7 +59,7 @@ module _ (b : Bytes) where
         let size = (no_refusal (first_of (read_checks b)) (matrix_size (head_of b)) n (sym read-size ∙ e)).1 in
         ap (λ (k : ℕ). take k (drop matrix_place b)) (sym size)
 
-    pub part_given : take n (drop matrix_place b) ≡ matrix_in (read_matrix b)
+    part_given : take n (drop matrix_place b) ≡ matrix_in (read_matrix b)
     unfolding read_matrix
     part_given = rw clear whole
 
@@ -67,7 +69,7 @@ module _ (b : Bytes) where
 
   -- a refusal, by the number n
   module _ (n : ℕ) (e : read_size b ≡ refuses n) where
-    pub part_refused : [] ≡ matrix_in (read_matrix b)
+    part_refused : [] ≡ matrix_in (read_matrix b)
     unfolding read_matrix
     part_refused = by (first_of (read_checks b)) (sym read-size ∙ e)
       where
@@ -82,3 +84,8 @@ module _ (b : Bytes) where
             → refuses n ≡ decided (or_else o (first_of (entry_checks (matrix_of b) i))) (entry_of (matrix_of b) i)
         by none q = let no : ◌≡◌ {A = ℕ} 0 1 = cc in absurd (omega arith)
         by (some r) q = cc
+
+  -- the part that is taken, by the answer r for the size
+  pub part_taken : (r : Result ℕ Refusal) → told r ≡ read_size b → take (result_unwrap_or r 0) (drop matrix_place b) ≡ matrix_in (read_matrix b)
+  part_taken (Ok n) e = part_given n (sym e)
+  part_taken (Err why) e = part_refused (number_of why) (sym e)

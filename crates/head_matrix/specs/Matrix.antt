@@ -8,14 +8,9 @@ use Rattle.octets.specs.Numbers.{number}
 use Rattle.refusal.specs.declared.Refusal.TheVariants.{NoSuchPart}
 use Rattle.refusal.specs.Checks.{Check, ◌when◌, first_of}
 use Rattle.refusal.specs.Told.{Told, gives, refuses, retold, decided}
-use Rattle.refusal.specs.Numbers.{number_of}
 use Rattle.head_fields.specs.Layout.{matrix_size}
 use Rattle.head_reader.specs.Fields.{matrix_of}
 use Rattle.head_reader.specs.Reading.{read_checks, read_head}
-use Rattle.head_matrix.specs.declared.SizeRead.{SizeRead}
-use Rattle.head_matrix.specs.declared.SizeRead.TheVariants.{Size, Refused}
-use Rattle.head_matrix.specs.declared.EntryRead.{EntryRead}
-use Rattle.head_matrix.specs.declared.EntryRead.TheVariants.{Entry, Refused as NoEntry}
 
 -- how many bytes it has, by the fields
 unfoldable pub read_size : Bytes → Told ℕ
@@ -40,13 +35,3 @@ entry_at m i = decided (first_of (entry_checks m i)) (entry_of m i)
 
 unfoldable pub read_entry : Bytes → ℕ → Told ℤ
 read_entry b i = decided (first_of (read_checks b ++ entry_checks (matrix_of b) i)) (entry_of (matrix_of b) i)
-
--- ---- what the code's answers tell
-
-abbrev pub told_size : SizeRead → Told ℕ
-told_size (Size n) = gives n
-told_size (Refused r) = refuses (number_of r)
-
-abbrev pub told_entry : EntryRead → Told ℤ
-told_entry (Entry x) = gives x
-told_entry (NoEntry r) = refuses (number_of r)

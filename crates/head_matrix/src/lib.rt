@@ -2,44 +2,24 @@
 // copied.
 #![tactic(auto)]
 
+ghost use Rattle.refusal.specs.Told.{told};
 ghost use Rattle.std.specs.Prelude.{◌≡◌};
 ghost use Rattle.head_reader.specs.Reading.{read_matrix};
-ghost use Rattle.head_matrix.specs.Matrix.{read_size, told_size, matrix_in, entry_at, read_entry, told_entry};
+ghost use Rattle.head_matrix.specs.Matrix.{read_size, matrix_in, entry_at, read_entry};
 
 use head_fields::place;
-use head_reader::Verdict;
 use refusal::Refusal;
 
-#[derive(Clone, Copy)]
-pub enum SizeRead {
-    // how many bytes the matrix has, 0 where the family has none
-    Size(usize),
-    // 12 or 13
-    Refused(Refusal),
-}
-
-#[derive(Clone, Copy)]
-pub enum EntryRead {
-    Entry(i16),
-    // 12, 13 or 20
-    Refused(Refusal),
-}
-
 // How many bytes the matrix has (RULES.md, 4). It lies from place 21 on. 12 and 13: as `head_reader::read_head` tells.
-// Example: of a right header of family 3 with 4 channels, 2 streams and 2 coupled it gives `SizeRead::Size(32)`. Of any right
-// header of family 0 it gives `SizeRead::Size(0)`.
-pub fn read_size(b: &[u8]) -> SizeRead
-    ensures { told_size result ≡ read_size b.now }
+// Example: of a right header of family 3 with 4 channels, 2 streams and 2 coupled it gives `Ok(32)`. Of any right
+// header of family 0 it gives `Ok(0)`.
+pub fn read_size(b: &[u8]) -> Result<usize, Refusal>
+    ensures { told result ≡ read_size b.now }
 {
     let read = head_reader::read_head(b);
+    read.verdict?;
     let h = read.head;
-    let verdict = read.verdict;
-    match verdict {
-        Verdict::Right => SizeRead::Size(head_families::matrix_length(
-            h.family, h.streams, h.coupled, h.channels,
-        )),
-        Verdict::Refused(why) => SizeRead::Refused(why),
-    }
+    Ok(head_families::matrix_length(h.family, h.streams, h.coupled, h.channels))
 }
 
 // The bytes of the matrix, empty where `read_size` refuses and where the family has none (RULES.md, 4).
@@ -47,31 +27,28 @@ pub fn read_size(b: &[u8]) -> SizeRead
 pub fn matrix(b: &[u8]) -> &[u8]
     ensures { result.now ≡ matrix_in (read_matrix b.now) }
 {
-    match read_size(b) {
-        SizeRead::Size(n) => octets::part_of(b, place::MATRIX, n),
-        SizeRead::Refused(_) => octets::part_of(b, 0, 0),
-    }
+    let n = read_size(b).unwrap_or(0);
+    octets::part_of(b, place::MATRIX, n)
 }
 
 // Entry i of the bytes of a matrix, the first being 0 (RULES.md, 4). 20: it has no such entry.
-// Example: `entry_at(&[0xff, 0x7f], 0)` gives `EntryRead::Entry(32767)`, and entry 1 is refused by 20.
-pub fn entry_at(m: &[u8], i: usize) -> EntryRead
-    ensures { told_entry result ≡ entry_at m.now i }
+// Example: `entry_at(&[0xff, 0x7f], 0)` gives `Ok(32767)`, and entry 1 is refused by 20.
+pub fn entry_at(m: &[u8], i: usize) -> Result<i16, Refusal>
+    ensures { told result ≡ entry_at m.now i }
 {
-    if i >= m.len() / 2 {
-        return EntryRead::Refused(Refusal::NoSuchPart);
+    let past = i >= m.len() / 2;
+    if past {
+        return Err(Refusal::NoSuchPart);
     }
-    EntryRead::Entry(number_signed::signed16(number_reader::number16(m, 2 * i)))
+    Ok(number_signed::signed16(number_reader::number16(m, 2 * i)))
 }
 
 // Entry i of the matrix, the first being 0, in the stored order (RULES.md, 4). 12 and 13: as `head_reader::read_head` tells. 20:
 // neither, and the matrix has no such entry, as in every family but 3.
-// Example: where the matrix begins with the bytes 0xff and 0x7f, `read_entry(b, 0)` gives `EntryRead::Entry(32767)`.
-pub fn read_entry(b: &[u8], i: usize) -> EntryRead
-    ensures { told_entry result ≡ read_entry b.now i }
+// Example: where the matrix begins with the bytes 0xff and 0x7f, `read_entry(b, 0)` gives `Ok(32767)`.
+pub fn read_entry(b: &[u8], i: usize) -> Result<i16, Refusal>
+    ensures { told result ≡ read_entry b.now i }
 {
-    match read_size(b) {
-        SizeRead::Size(n) => entry_at(octets::part_of(b, place::MATRIX, n), i),
-        SizeRead::Refused(why) => EntryRead::Refused(why),
-    }
+    let n = read_size(b)?;
+    entry_at(octets::part_of(b, place::MATRIX, n), i)
 }

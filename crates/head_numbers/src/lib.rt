@@ -34,6 +34,7 @@ pub fn numbers_fit(fields: &[u64; 8]) -> bool
     ensures { result ≡ fitting fields.now }
 {
     let bounds = [256u64, 256, 65536, 4294967296, 65536, 256, 256, 256];
+    // stays: the edit `last_number_not_looked_at` ends this loop one number earlier
     let mut i = 0;
     while i < 8 {
         if fields[i] >= bounds[i] {

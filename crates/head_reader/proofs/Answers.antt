@@ -1,4 +1,5 @@
 -- The ways of reading a header, by its tests. Assumes nothing.
+use Rattle.std.specs.Prelude.{Ok}
 use mathlib.Core.Path.{◌≡◌}
 use mathlib.Core.Bool.{true, false}
 use Rattle.octets.specs.Octets.{Bytes}
@@ -9,7 +10,6 @@ use Rattle.refusal.specs.Numbers.{number_of}
 use Rattle.refusal.specs.Told.{gives, refuses}
 use Rattle.head_fields.specs.declared.Head.{Head}
 use Rattle.head_reader.specs.declared.HeadRead.{HeadRead}
-use Rattle.head_reader.specs.declared.Verdict.TheVariants.{Right}
 use Rattle.head_reader.specs.Fields.{head_of}
 use Rattle.head_fields.specs.Right.{right_mapping}
 use Rattle.head_reader.specs.Reading.{is_head, read_head, WasRefused, HeadIs}
@@ -31,5 +31,5 @@ module _ (b : Bytes) where
   pub refused-is : (r : HeadRead) (why : Refusal) → WasRefused why r → read_head b ≡ refuses (number_of why) → HeadIs b r
   refused-is r why p e = record { told = rw (p.verdict, e); head = rw e p.head }
 
-  pub read_is : (h : Head) → read_head b ≡ gives h → HeadIs b (record { verdict = Right; head = h })
+  pub read_is : (h : Head) → read_head b ≡ gives h → HeadIs b (record { verdict = Ok tt; head = h })
   read_is h e = record { told = rw e; head = rw e }

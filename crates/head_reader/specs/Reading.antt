@@ -1,6 +1,6 @@
 -- Reading an identification header (RULES.md, refusals 12 and 13). 12 comes before 13, with the bytes of the family and of the
 -- counts as they are. Assumes nothing.
-use Rattle.std.specs.Prelude.{ℕ, ◌≡◌, Bool, not, ◌&&◌, List, [], ◌∷◌, leb, pos, length, get_or, replicate}
+use Rattle.std.specs.Prelude.{⊤, Result, Ok, Err, ℕ, ◌≡◌, Bool, not, ◌&&◌, List, [], ◌∷◌, leb, pos, length, get_or, replicate}
 use Rattle.octets.specs.Octets.{Bytes, begins}
 use Rattle.refusal.specs.declared.Refusal.{Refusal}
 use Rattle.refusal.specs.declared.Refusal.TheVariants.{BadHead, BadMapping}
@@ -8,8 +8,6 @@ use Rattle.refusal.specs.Checks.{Check, ◌when◌, first_of}
 use Rattle.refusal.specs.Told.{Told, gives, refuses, decided}
 use Rattle.refusal.specs.Numbers.{number_of}
 use Rattle.head_fields.specs.declared.Head.{Head}
-use Rattle.head_reader.specs.declared.Verdict.{Verdict}
-use Rattle.head_reader.specs.declared.Verdict.TheVariants.{Right, Refused}
 use Rattle.head_reader.specs.declared.HeadRead.{HeadRead}
 use Rattle.head_reader.specs.Fields.{head_of, matrix_of}
 use Rattle.head_fields.specs.Right.{readable_version, right_length, right_mapping}
@@ -54,9 +52,9 @@ no_head = record {
 }
 
 -- what the code's answer tells
-abbrev pub told_by : Verdict → Head → Told Head
-told_by Right h = gives h
-told_by (Refused r) h = refuses (number_of r)
+abbrev pub told_by : Result ⊤ Refusal → Head → Told Head
+told_by (Ok _) h = gives h
+told_by (Err r) h = refuses (number_of r)
 
 abbrev pub head_in : Told Head → Head
 head_in (gives h) = h
@@ -65,7 +63,7 @@ head_in (refuses n) = no_head
 -- the code's answer where a check refuses
 pub record WasRefused (why : Refusal) (r : HeadRead) : Type 0 where
   pub head : r.head ≡ no_head
-  pub verdict : r.verdict ≡ Refused why
+  pub verdict : r.verdict ≡ Err why
 
 pub record HeadIs (b : Bytes) (r : HeadRead) : Type 0 where
   pub told : told_by r.verdict r.head ≡ read_head b

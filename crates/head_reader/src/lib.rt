@@ -9,18 +9,11 @@ use head_fields::{Head, SIGNATURE, START_LENGTH, place};
 use limits::PACKET_MAX;
 use refusal::Refusal;
 
-#[derive(Clone, Copy)]
-pub enum Verdict {
-    // the record holds the fields
-    Right,
-    // 12 or 13
-    Refused(Refusal),
-}
-
-// The record holds an array, so it is next to the verdict and not in it. Under a refusal it is all zeros.
+// What a reading gives: whether the header is refused, and its fields, which are all zeros under a refusal.
+// stays: the clause `HeadIs` and the edit `fields_under_a_refusal` speak of the record under a refusal, so it is not in the `Ok`.
 #[derive(Clone, Copy)]
 pub struct HeadRead {
-    pub verdict: Verdict,
+    pub verdict: Result<(), Refusal>,
     pub head: Head,
 }
 
@@ -108,7 +101,8 @@ fn is_head(b: &[u8]) -> bool
         return false;
     }
     let fields = length_of(b);
-    if fields > PACKET_MAX {
+    let long = fields > PACKET_MAX;
+    if long {
         return false;
     }
     head_fields::right_length(version, fields, b.len())
@@ -130,7 +124,7 @@ fn refused(why: Refusal) -> HeadRead
         mapping,
     };
     HeadRead {
-        verdict: Verdict::Refused(why),
+        verdict: Err(why),
         head,
     }
 }
@@ -150,7 +144,7 @@ pub fn read_head(b: &[u8]) -> HeadRead
         return refused(Refusal::BadMapping);
     }
     HeadRead {
-        verdict: Verdict::Right,
+        verdict: Ok(()),
         head,
     }
 }

@@ -1,4 +1,5 @@
 -- The ways of writing a header, by its tests. Assumes nothing.
+use Rattle.std.specs.Prelude.{Ok, Err}
 use mathlib.Core.Path.{◌≡◌}
 use mathlib.Core.Bool.{true, false}
 use mathlib.Core.Option.{none, some}
@@ -12,7 +13,6 @@ use Rattle.refusal.specs.Checks.{first_of}
 use Rattle.head_fields.specs.declared.Head.{Head}
 use Rattle.head_fields.specs.Layout.{matrix_size, head_size}
 use Rattle.head_fields.specs.Right.{writable_head}
-use Rattle.head_writer.specs.declared.HeadWritten.TheVariants.{Bytes as Written, Refused as NotWritten}
 use Rattle.head_writer.specs.Writing.{head_bytes, write_checks, write_told, write_out, Wrote}
 
 module _ (h : Head) (m out : Bytes) where
@@ -36,11 +36,11 @@ module _ (h : Head) (m out : Bytes) where
     unfolding first_of
     writable t l = rw (e, eq-eqb (length m) (matrix_size h) s, le-ltb (length out) (head_size h) (rw t at l))
 
-  pub not_written : (why : Refusal) → first_of (write_checks h m (length out)) ≡ some why → Wrote h m out (NotWritten why) out
+  pub not_written : (why : Refusal) → first_of (write_checks h m (length out)) ≡ some why → Wrote h m out (Err why) out
   unfolding write_told write_out
   not_written why e = record { told = rw e; output = rw e }
 
   pub wrote : {n : ℕ} {end : Bytes} → n ≡ head_size h → end ≡ copied out 0 (head_bytes h m)
-      → first_of (write_checks h m (length out)) ≡ none → Wrote h m out (Written n) end
+      → first_of (write_checks h m (length out)) ≡ none → Wrote h m out (Ok n) end
   unfolding write_told write_out
   wrote t o e = rw (t, o) (record { told = rw e; output = rw e })

@@ -1,6 +1,7 @@
 -- Writing an identification header with its matrix (RULES.md, refusals 23 and 22; RFC 7845, 5.1; RFC 8486, 3). Assumes
 -- nothing.
-use Rattle.std.specs.Prelude.{ℕ, ◌≤◌, ◌≡◌, Bool, not, ◌&&◌, List, [], ◌∷◌, ◌++◌, ltb, eqb, length}
+use Rattle.refusal.specs.Told.{told, Told, decided}
+use Rattle.std.specs.Prelude.{Result, ℕ, ◌≤◌, ◌≡◌, Bool, not, ◌&&◌, List, [], ◌∷◌, ◌++◌, ltb, eqb, length}
 use Rattle.std.proofs.Math.Option.{Option, none, some}
 use Rattle.std.specs.Int.{w16}
 use Rattle.std.proofs.Common.{of_z}
@@ -10,11 +11,7 @@ use Rattle.octets.specs.Numbers.{octets}
 use Rattle.refusal.specs.declared.Refusal.{Refusal}
 use Rattle.refusal.specs.declared.Refusal.TheVariants.{ShortOutput, UnfitFields}
 use Rattle.refusal.specs.Checks.{Check, ◌when◌, first_of}
-use Rattle.refusal.specs.Told.{Told, gives, refuses, decided}
-use Rattle.refusal.specs.Numbers.{number_of}
 use Rattle.head_fields.specs.declared.Head.{Head}
-use Rattle.head_writer.specs.declared.HeadWritten.{HeadWritten}
-use Rattle.head_writer.specs.declared.HeadWritten.TheVariants.{Bytes as Written, Refused}
 use Rattle.head_families.specs.Families.{has_counts}
 use Rattle.head_fields.specs.Layout.{signature, matrix_size, head_size}
 use Rattle.head_fields.specs.Right.{used_places, writable_head}
@@ -47,17 +44,12 @@ write_told h m out = decided (first_of (write_checks h m (length out))) (head_si
 unfoldable pub write_out : Head → Bytes → Bytes → Bytes
 write_out h m out = written (first_of (write_checks h m (length out))) out (head_bytes h m)
 
--- what the code's answer tells
-abbrev pub told_written : HeadWritten → Told ℕ
-told_written (Written n) = gives n
-told_written (Refused r) = refuses (number_of r)
-
 -- a matrix m as the fields h say, and an output with room for both
 pub record HeadFits (h : Head) (m out : Bytes) : Type 0 where
   pub matrix : length m ≡ matrix_size h
   pub room : head_size h ≤ length out
 
 -- the answer r, and the output from `out` at entry to `end` at exit
-pub record Wrote (h : Head) (m out : Bytes) (r : HeadWritten) (end : Bytes) : Type 0 where
-  pub told : told_written r ≡ write_told h m out
+pub record Wrote (h : Head) (m out : Bytes) (r : Result ℕ Refusal) (end : Bytes) : Type 0 where
+  pub told : told r ≡ write_told h m out
   pub output : end ≡ write_out h m out

@@ -8,14 +8,6 @@ ghost use Rattle.head_writer.specs.Writing.{start_of, head_bytes, HeadFits, Wrot
 use head_fields::{Head, SIGNATURE, START_LENGTH, place};
 use refusal::Refusal;
 
-#[derive(Clone, Copy)]
-pub enum HeadWritten {
-    // how many bytes were written
-    Bytes(usize),
-    // 23 or 22
-    Refused(Refusal),
-}
-
 // The bytes before the table.
 fn start_of(h: Head) -> [u8; START_LENGTH]
     ensures { result ≡ start_of h }
@@ -52,20 +44,22 @@ fn put_head(h: Head, matrix: &[u8], out: &mut [u8])
 // wrong, family 0 has other counts or indices than its own, an unused place of the mapping is not zero, the header would be
 // longer than 61,440 bytes, or the matrix does not have the bytes that family 3 asks for, and none in another family. 22: not
 // 23, and `out` is shorter than the header. On refusal nothing is written.
-// Example: right fields of family 0 and no matrix give `HeadWritten::Bytes(19)`, where `out` has 19 bytes or more.
-pub fn write_head(h: Head, matrix: &[u8], out: &mut [u8]) -> HeadWritten
+// Example: right fields of family 0 and no matrix give `Ok(19)`, where `out` has 19 bytes or more.
+pub fn write_head(h: Head, matrix: &[u8], out: &mut [u8]) -> Result<usize, Refusal>
     ensures { Wrote h matrix.now out.old result out.new }
 {
     if !head_fields::writable_head(h) {
-        return HeadWritten::Refused(Refusal::UnfitFields);
+        return Err(Refusal::UnfitFields);
     }
-    if matrix.len() != head_families::matrix_length(h.family, h.streams, h.coupled, h.channels) {
-        return HeadWritten::Refused(Refusal::UnfitFields);
+    let other = matrix.len()
+        != head_families::matrix_length(h.family, h.streams, h.coupled, h.channels);
+    if other {
+        return Err(Refusal::UnfitFields);
     }
     let size = head_fields::head_length(h.family, h.streams, h.coupled, h.channels);
     if out.len() < size {
-        return HeadWritten::Refused(Refusal::ShortOutput);
+        return Err(Refusal::ShortOutput);
     }
     put_head(h, matrix, out);
-    HeadWritten::Bytes(size)
+    Ok(size)
 }

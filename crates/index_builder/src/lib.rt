@@ -2,6 +2,7 @@
 // pass the slice on from call to call.
 #![tactic(auto)]
 
+ghost use Rattle.refusal.specs.Told.{told};
 ghost use Rattle.std.specs.Prelude.{◌≡◌, length};
 ghost use Rattle.page_crc.specs.Crc.{page_crc};
 ghost use Rattle.stream.specs.Readings.{readings};
@@ -9,49 +10,34 @@ ghost use Rattle.recording.specs.Pages.{pages_of};
 ghost use Rattle.index_walk.specs.Records.{index_of};
 ghost use Rattle.index_builder.specs.Building.{fitting, build as buildIn, Builds};
 ghost use Rattle.index_builder.specs.Filling.{filled_from, start_of};
-ghost use Rattle.index_builder.specs.Answers.{told_built};
 
 use index_search::IndexRecord;
-use recording::Judged;
 use refusal::Refusal;
 
-#[derive(Clone, Copy)]
-pub enum IndexBuilt {
-    // how many records the index has
-    Built(usize),
-    // 2 to 18 or 24: the stream is not whole; 22: the records do not fit
-    Refused(Refusal),
-}
-
 // How many records the index of a whole stream has, where they fit a list of `room` records.
-fn fit(stream: &[u8], room: usize) -> IndexBuilt
-    ensures { told_built result ≡ fitting (length (index_of (pages_of stream.now))) room }
+fn fit(stream: &[u8], room: usize) -> Result<usize, Refusal>
+    ensures { told result ≡ fitting (length (index_of (pages_of stream.now))) room }
 {
     let n = index_walk::count(stream);
     if room < n {
-        return IndexBuilt::Refused(Refusal::ShortOutput);
+        return Err(Refusal::ShortOutput);
     }
-    IndexBuilt::Built(n)
+    Ok(n)
 }
 
 // What building tells, the list having `room` records.
-fn plan(stream: &[u8], room: usize) -> IndexBuilt
-    ensures { told_built result ≡ buildIn (readings page_crc) stream.now room }
+fn plan(stream: &[u8], room: usize) -> Result<usize, Refusal>
+    ensures { told result ≡ buildIn (readings page_crc) stream.now room }
 {
-    match recording::judge(stream) {
-        Judged::Whole(_, _) => fit(stream, room),
-        Judged::Refused(why, _) => IndexBuilt::Refused(why),
-    }
+    recording::judge(stream)?;
+    fit(stream, room)
 }
 
 // Where filling begins, in a stream of n bytes.
-fn start_of(built: IndexBuilt, n: usize) -> usize
-    ensures { result ≡ start_of (told_built built) n }
+fn start_of(built: Result<usize, Refusal>, n: usize) -> usize
+    ensures { result ≡ start_of (told built) n }
 {
-    match built {
-        IndexBuilt::Built(_) => 0,
-        IndexBuilt::Refused(_) => n,
-    }
+    if built.is_ok() { 0 } else { n }
 }
 
 // Stores the records of the pages from place `from` of the stream on.
@@ -68,10 +54,10 @@ fn fill(stream: &[u8], records: &mut [IndexRecord], from: usize)
 // Builds the index of the stream into the first places of `records`, and tells how many records it has: one for each page on
 // which an audio packet completes, in order (RULES.md, 15). A stream that is not whole is refused as `recording::judge` refuses
 // it; one whose records are more than `records` has places is refused with 22. Under a refusal nothing is stored.
-// Example: of a whole stream with three audio pages, each of which completes a packet, it is `IndexBuilt::Built(3)`, and with two
-// places only it is `IndexBuilt::Refused(Refusal::ShortOutput)`.
-pub fn build(stream: &[u8], records: &mut [IndexRecord]) -> IndexBuilt
-    ensures { Builds (readings page_crc) stream.now (told_built result)
+// Example: of a whole stream with three audio pages, each of which completes a packet, it is `Ok(3)`, and with two
+// places only it is `Err(Refusal::ShortOutput)`.
+pub fn build(stream: &[u8], records: &mut [IndexRecord]) -> Result<usize, Refusal>
+    ensures { Builds (readings page_crc) stream.now (told result)
         records.old records.new }
 {
     let built = plan(stream, records.len());

@@ -3,23 +3,16 @@
 // the records (`index_records`). Seeking looks at the granule positions alone.
 #![tactic(auto)]
 
+ghost use Rattle.octets.specs.Given.{given};
 ghost use Rattle.std.specs.Prelude.{◌≡◌, get_or, set};
 ghost use Rattle.index_search.specs.Index.{first_fall, seek_in};
 ghost use Rattle.index_search.specs.Search.{finish};
-ghost use Rattle.index_search.specs.Answers.{told_fall, told_sought};
+ghost use Rattle.index_search.specs.Answers.{told_sought};
 ghost use Rattle.index_columns.specs.Columns.{are_equal, record_from, StoredAt, seek_columns};
 ghost use Rattle.index_columns.specs.Answers.{told_columns};
 
-use index_search::{Fall, IndexRecord, Search, Sought};
+use index_search::{IndexRecord, Search, Sought};
 use refusal::Refusal;
-
-#[derive(Clone, Copy)]
-pub enum ColumnsSought {
-    // what seeking answers, 26 with a place included
-    Found(Sought),
-    // 22: the lists have different lengths
-    Refused(Refusal),
-}
 
 // Whether the three lists of an index have equal lengths (RULES.md, 15). It refuses nothing.
 // Example: of lists of 2, 2 and 2 it is true, and of 2, 2 and 3 it is false.
@@ -29,43 +22,15 @@ pub fn are_equal(granules: &[u64], places: &[u64], sequences: &[u32]) -> bool
     (granules.len() == places.len()) & (granules.len() == sequences.len())
 }
 
-fn long_at(list: &[u64], i: usize) -> u64
-    ensures { result ≡ get_or list.now i 0 }
-{
-    if i < list.len() { list[i] } else { 0 }
-}
-
-fn short_at(list: &[u32], i: usize) -> u32
-    ensures { result ≡ get_or list.now i 0 }
-{
-    if i < list.len() { list[i] } else { 0 }
-}
-
 // The record at place i of an index, with 0 for each field whose list has no such place (RULES.md, 15). It refuses nothing.
 // Example: of three empty lists every record is read as granule 0, place 0 and sequence number 0.
 pub fn record_at(granules: &[u64], places: &[u64], sequences: &[u32], i: usize) -> IndexRecord
     ensures { result ≡ record_from granules.now places.now sequences.now i }
 {
     IndexRecord {
-        granule: long_at(granules, i),
-        place: long_at(places, i),
-        sequence: short_at(sequences, i),
-    }
-}
-
-fn store_long(list: &mut [u64], i: usize, x: u64)
-    ensures { list.new ≡ set list.old i x }
-{
-    if i < list.len() {
-        list[i] = x;
-    }
-}
-
-fn store_short(list: &mut [u32], i: usize, x: u32)
-    ensures { list.new ≡ set list.old i x }
-{
-    if i < list.len() {
-        list[i] = x;
+        granule: granules.get(i).copied().unwrap_or(0),
+        place: places.get(i).copied().unwrap_or(0),
+        sequence: sequences.get(i).copied().unwrap_or(0),
     }
 }
 
@@ -81,27 +46,27 @@ pub fn store_at(
 )
     ensures { StoredAt i r granules places sequences }
 {
-    store_long(granules, i, r.granule);
-    store_long(places, i, r.place);
-    store_short(sequences, i, r.sequence);
+    lists::store_at(granules, i, r.granule);
+    lists::store_at(places, i, r.place);
+    lists::store_at(sequences, i, r.sequence);
 }
 
 // The first place whose granule position is below the one before it (RULES.md, 15). It refuses nothing.
-// Example: of the granule positions 3, 3, 2 and 1 it is `At(2)`, and of an empty list it is `Nowhere`.
-pub fn first_fall(granules: &[u64]) -> Fall
-    ensures { told_fall result ≡ first_fall granules.now }
+// Example: of the granule positions 3, 3, 2 and 1 it is `Some(2)`, and of an empty list it is `None`.
+pub fn first_fall(granules: &[u64]) -> Option<usize>
+    ensures { given result ≡ first_fall granules.now }
 {
     let mut before = 0;
     let mut i = 0;
     while i < granules.len() {
         let g = granules[i];
         if g < before {
-            return Fall::At(i);
+            return Some(i);
         }
         before = g;
         i = i + 1;
     }
-    Fall::Nowhere
+    None
 }
 
 // All steps of a search.
@@ -111,7 +76,7 @@ fn run(granules: &[u64], s: Search) -> Search
     let mut t = s;
     while t.low < t.high {
         let at = index_search::place(t);
-        let g = long_at(granules, at);
+        let g = granules.get(at).copied().unwrap_or(0);
         t = index_search::step(t, g);
     }
     t
@@ -130,13 +95,17 @@ fn seek_in(granules: &[u64], target: u64) -> Sought
 // is none (RULES.md, 15; RFC 7845, 4.6). Refuses with 22 where the three lists have different lengths, before all else, and then
 // with 26 where a granule position is below the one before it, whatever the target.
 // Example: of the granule positions 5,000, 6,000, 7,000, 7,000 and 8,000, with five places and five sequence numbers, and the
-// target 10,840, it is `Found(Record(3, 3))`: the last of two equal ones, after three probes.
-pub fn seek(granules: &[u64], places: &[u64], sequences: &[u32], target: u64) -> ColumnsSought
+// target 10,840, it is `Ok(Record(3, 3))`: the last of two equal ones, after three probes.
+pub fn seek(
+    granules: &[u64],
+    places: &[u64],
+    sequences: &[u32],
+    target: u64,
+) -> Result<Sought, Refusal>
     ensures { told_columns result ≡ seek_columns granules.now places.now sequences.now target }
 {
     if !are_equal(granules, places, sequences) {
-        return ColumnsSought::Refused(Refusal::ShortOutput);
+        return Err(Refusal::ShortOutput);
     }
-    let s = seek_in(granules, target);
-    ColumnsSought::Found(s)
+    Ok(seek_in(granules, target))
 }

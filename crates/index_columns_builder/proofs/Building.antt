@@ -1,4 +1,5 @@
 -- What building into three lists tells, and the lists that it leaves. Assumes nothing.
+use Rattle.std.specs.Prelude.{⊤, Result, Ok, Err}
 use Prim.Native.Nat.{ℕ, ◌+◌, ◌≤◌}
 use mathlib.Core.Path.{◌≡◌, refl, sym, ap, ◌∙◌}
 use mathlib.Core.Bool.{Bool, true, false}
@@ -22,8 +23,6 @@ use Rattle.index_search.specs.Index.{Index}
 use Rattle.index_columns.specs.Columns.{are_equal}
 use Rattle.index_walk.specs.Records.{index_of}
 use Rattle.index_builder.specs.Building.{built_by, build}
-use Rattle.index_columns_builder.specs.declared.Room.{Room}
-use Rattle.index_columns_builder.specs.declared.Room.TheVariants.{Fits, Refused}
 use Rattle.index_columns_builder.specs.Building.{told_room, build_columns, field_stored, field_filled}
 use Rattle.index_columns_builder.specs.Building.{granule_in, place_in, sequence_in}
 
@@ -50,12 +49,12 @@ unfolding build
 fits R b n room e = fits_by (judge_buffer R b) (index_of (pages_of b)) n room e
 
 -- what building tells, by whether the records fit
-module _ (b : Bytes) (x : Room) {t : Told ℕ} (h : told_room x (length (index_of (pages_of b))) ≡ t) where
-  pub told-count : {n : ℕ} → x ≡ Fits → n ≡ length (index_of (pages_of b)) → gives n ≡ t
-  told-count e same = ap gives same ∙ sym (ap (λ (y : Room). told_room y (length (index_of (pages_of b)))) e) ∙ h
+module _ (b : Bytes) (x : Result ⊤ Refusal) {t : Told ℕ} (h : told_room x (length (index_of (pages_of b))) ≡ t) where
+  pub told-count : {n : ℕ} → x ≡ Ok tt → n ≡ length (index_of (pages_of b)) → gives n ≡ t
+  told-count e same = ap gives same ∙ sym (ap (λ (y : Result ⊤ Refusal). told_room y (length (index_of (pages_of b)))) e) ∙ h
 
-  pub told-refusal : {why : Refusal} → x ≡ Refused why → refuses (number_of why) ≡ t
-  told-refusal e = sym (ap (λ (y : Room). told_room y (length (index_of (pages_of b)))) e) ∙ h
+  pub told-refusal : {why : Refusal} → x ≡ Err why → refuses (number_of why) ≡ t
+  told-refusal e = sym (ap (λ (y : Result ⊤ Refusal). told_room y (length (index_of (pages_of b)))) e) ∙ h
 
 -- ---- each list at the end
 

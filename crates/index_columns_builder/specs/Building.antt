@@ -1,5 +1,6 @@
 -- Building the index of a stream in a buffer into three lists (RULES.md, 15). Assumes nothing.
-use Rattle.std.specs.Prelude.{ℕ, ◌≡◌, List, map, ◌++◌, length, drop}
+use Rattle.refusal.specs.declared.Refusal.{Refusal}
+use Rattle.std.specs.Prelude.{⊤, Result, Ok, Err, ℕ, ◌≡◌, List, map, ◌++◌, length, drop}
 use Rattle.std.proofs.lemmas.List.Edits.{sets}
 use Rattle.octets.specs.Pick.{pick}
 use Rattle.octets.specs.Octets.{Bytes}
@@ -13,8 +14,6 @@ use Rattle.index_search.specs.Index.{Index}
 use Rattle.index_columns.specs.Columns.{are_equal, Slice}
 use Rattle.index_walk.specs.Records.{index_of}
 use Rattle.index_builder.specs.Building.{build}
-use Rattle.index_columns_builder.specs.declared.Room.{Room}
-use Rattle.index_columns_builder.specs.declared.Room.TheVariants.{Fits, Refused}
 
 -- 22 where the lists have different lengths, before all else; then what building into as many records tells
 unfoldable pub build_columns : Readings → Bytes → List ℕ → List ℕ → List ℕ → Told ℕ
@@ -45,9 +44,9 @@ pub record BuildsColumns (R : Readings) (b : Bytes) (t : Told ℕ) (granules pla
 -- ---- whether the records of a stream fit
 
 -- what building tells of n records
-abbrev pub told_room : Room → ℕ → Told ℕ
-told_room Fits n = gives n
-told_room (Refused why) n = refuses (number_of why)
+abbrev pub told_room : Result ⊤ Refusal → ℕ → Told ℕ
+told_room (Ok _) n = gives n
+told_room (Err why) n = refuses (number_of why)
 
 -- ---- the records of a stream stored one after the other
 

@@ -2,54 +2,42 @@
 // sequence numbers of its records. It answers as `index_builder::build` does on records.
 #![tactic(auto)]
 
+ghost use Rattle.refusal.specs.Told.{told};
 ghost use Rattle.std.specs.Prelude.{◌+◌, ◌≤◌, ◌≡◌, length};
 ghost use Rattle.page_crc.specs.Crc.{page_crc};
 ghost use Rattle.stream.specs.Readings.{readings};
 ghost use Rattle.recording.specs.Pages.{pages_of};
 ghost use Rattle.index_walk.specs.Records.{index_of};
 ghost use Rattle.index_builder.specs.Building.{fitting, build as buildIn};
-ghost use Rattle.index_builder.specs.Answers.{told_built};
 ghost use Rattle.index_columns_builder.specs.Building.{told_room, BuildsColumns, FillsColumns};
 
-use index_builder::IndexBuilt;
-use recording::Judged;
 use refusal::Refusal;
-
-// Whether the records of a stream fit.
-#[derive(Clone, Copy)]
-enum Room {
-    Fits,
-    // 2 to 18 or 24: the stream is not whole; 22: the records do not fit
-    Refused(Refusal),
-}
 
 // Whether the records of a whole stream of so many pages fit a list of `room` records. Two pages at least have no record: the
 // first, and one of the comment header. The records are counted only where this does not decide.
-fn fit(stream: &[u8], pages: usize, room: usize) -> Room
+fn fit(stream: &[u8], pages: usize, room: usize) -> Result<(), Refusal>
     requires { length (index_of (pages_of stream.now)) + 2 ≤ pages }
     ensures { let n = length (index_of (pages_of stream.now)) in told_room result n ≡ fitting n room }
 {
     if pages <= room {
-        return Room::Fits;
+        return Ok(());
     }
     if pages - room <= 2 {
-        return Room::Fits;
+        return Ok(());
     }
     if room < index_walk::count(stream) {
-        return Room::Refused(Refusal::ShortOutput);
+        return Err(Refusal::ShortOutput);
     }
-    Room::Fits
+    Ok(())
 }
 
 // Whether the index of the stream is built, where the lists have `room` places.
-fn room_for(stream: &[u8], room: usize) -> Room
+fn room_for(stream: &[u8], room: usize) -> Result<(), Refusal>
     ensures { told_room result (length (index_of (pages_of stream.now)))
         ≡ buildIn (readings page_crc) stream.now room }
 {
-    match recording::judge(stream) {
-        Judged::Whole(pages, _) => fit(stream, pages, room),
-        Judged::Refused(why, _) => Room::Refused(why),
-    }
+    let whole = recording::judge(stream)?;
+    fit(stream, whole.pages, room)
 }
 
 // Stores the fields of all records of the stream, as far as the lists go, and tells how many records there are.
@@ -69,23 +57,18 @@ fn fill(stream: &[u8], granules: &mut [u64], places: &mut [u64], sequences: &mut
 // else; then a stream that is not whole as `recording::judge` refuses it, and with 22 where the lists have fewer places than the
 // index has records. Under a refusal nothing is stored.
 // Example: of a whole stream whose audio pages each complete a packet, and lists of as many places, it is
-// `IndexBuilt::Built(pages)`.
+// `Ok(pages)`.
 pub fn build(
     stream: &[u8],
     granules: &mut [u64],
     places: &mut [u64],
     sequences: &mut [u32],
-) -> IndexBuilt
-    ensures { BuildsColumns (readings page_crc) stream.now (told_built result) granules places sequences }
+) -> Result<usize, Refusal>
+    ensures { BuildsColumns (readings page_crc) stream.now (told result) granules places sequences }
 {
     if !index_columns::are_equal(granules, places, sequences) {
-        return IndexBuilt::Refused(Refusal::ShortOutput);
+        return Err(Refusal::ShortOutput);
     }
-    match room_for(stream, granules.len()) {
-        Room::Fits => {
-            let n = fill(stream, granules, places, sequences);
-            IndexBuilt::Built(n)
-        }
-        Room::Refused(why) => IndexBuilt::Refused(why),
-    }
+    room_for(stream, granules.len())?;
+    Ok(fill(stream, granules, places, sequences))
 }

@@ -2,12 +2,13 @@
 // on from call to call. The search itself is in `index_search`, on plain numbers.
 #![tactic(auto)]
 
+ghost use Rattle.octets.specs.Given.{given};
 ghost use Rattle.std.specs.Prelude.{◌≡◌, get_or, set};
 ghost use Rattle.index_search.specs.Index.{no_record, granules_of, first_fall, seek_of};
 ghost use Rattle.index_search.specs.Search.{finish};
-ghost use Rattle.index_search.specs.Answers.{told_fall, told_sought};
+ghost use Rattle.index_search.specs.Answers.{told_sought};
 
-use index_search::{Fall, IndexRecord, Search, Sought};
+use index_search::{IndexRecord, Search, Sought};
 
 // The record at place i of an index, or one of zeros where the index has no such place (RULES.md, 15). It refuses nothing.
 // Example: of an empty index every record is read as granule 0, place 0 and sequence number 0.
@@ -29,9 +30,7 @@ pub fn record_at(records: &[IndexRecord], i: usize) -> IndexRecord
 pub fn store_at(records: &mut [IndexRecord], i: usize, r: IndexRecord)
     ensures { records.new ≡ set records.old i r }
 {
-    if i < records.len() {
-        records[i] = r;
-    }
+    lists::store_at(records, i, r);
 }
 
 // All steps of a search.
@@ -48,9 +47,9 @@ fn run(records: &[IndexRecord], s: Search) -> Search
 }
 
 // The first place of an index whose granule position is below the one before it (RULES.md, 15). It refuses nothing.
-// Example: of records with the granule positions 3, 3, 2 and 1 it is `At(2)`, and of an empty index it is `Nowhere`.
-pub fn first_fall(records: &[IndexRecord]) -> Fall
-    ensures { told_fall result ≡ first_fall (granules_of records.now) }
+// Example: of records with the granule positions 3, 3, 2 and 1 it is `Some(2)`, and of an empty index it is `None`.
+pub fn first_fall(records: &[IndexRecord]) -> Option<usize>
+    ensures { given result ≡ first_fall (granules_of records.now) }
 {
     let n = records.len();
     let s = index_search::scanning(n);

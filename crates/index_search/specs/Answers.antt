@@ -1,16 +1,9 @@
 -- What the answers of the code tell. Assumes nothing.
 use Rattle.std.specs.Prelude.{ℕ}
-use Rattle.std.proofs.Math.Option.{Option, none, some}
 use Rattle.refusal.specs.Numbers.{number_of}
-use Rattle.index_search.specs.declared.Fall.{Fall}
-use Rattle.index_search.specs.declared.Fall.TheVariants.{At, Nowhere}
 use Rattle.index_search.specs.declared.Sought.{Sought}
 use Rattle.index_search.specs.declared.Sought.TheVariants.{Record, Begin, Refused}
 use Rattle.index_search.specs.Index.{Answer, at_record, at_begin, refused}
-
-abbrev pub told_fall : Fall → Option ℕ
-told_fall (At i) = some i
-told_fall Nowhere = none
 
 abbrev pub told_sought : Sought → Answer
 told_sought (Record i probes) = at_record i probes

@@ -2,10 +2,11 @@
 // and is told the granule position there. So it serves every layout of an index.
 #![tactic(auto)]
 
+ghost use Rattle.octets.specs.Given.{given};
 ghost use Rattle.std.specs.Prelude.{◌≡◌, ◌-◌, ◌<◌};
-ghost use Rattle.index_search.specs.Search.{one_more, place_of, scanned, halved, step_of, scanning_of, fall_of};
+ghost use Rattle.index_search.specs.Search.{place_of, scanned, halved, step_of, scanning_of, fall_of};
 ghost use Rattle.index_search.specs.Search.{halving_by, halving_of, answer_of};
-ghost use Rattle.index_search.specs.Answers.{told_fall, told_sought};
+ghost use Rattle.index_search.specs.Answers.{told_sought};
 
 use refusal::Refusal;
 
@@ -30,13 +31,7 @@ pub struct Search {
     pub halves: bool,
 }
 
-// The first place of an index whose granule position is below the one before it.
-#[derive(Clone, Copy)]
-pub enum Fall {
-    At(usize),
-    Nowhere,
-}
-
+// What seeking answers. Stays one enum: the refusal tells a place too, and the other two are answers of one kind.
 #[derive(Clone, Copy)]
 pub enum Sought {
     // the place of the record in the index, and the number of probes
@@ -50,27 +45,13 @@ pub enum Sought {
 // The pre-roll, 80 ms in samples at 48 kHz: how far before the target a reader is opened (RFC 7845, 4.6).
 const PRE_ROLL: u64 = 3840;
 
-// The difference, 0 where it would be below.
-fn minus(a: usize, b: usize) -> usize
-    ensures { result ≡ a - b }
-{
-    if a < b { 0 } else { a - b }
-}
-
-// One more, and no more than 64 bits hold.
-fn one_more(n: u64) -> u64
-    ensures { result ≡ one_more n }
-{
-    if n < u64::MAX { n + 1 } else { n }
-}
-
 // The place that a search looks at next (RULES.md, 15): the first of those that remain, or, if it halves, the one with half of
 // them, rounded down, before it. It refuses nothing; of a search that has ended it is `low`.
 // Example: by halving from 0 to before 8 it is 4, and from 0 to before 7 it is 3.
 pub fn place(s: Search) -> usize
     ensures { result ≡ place_of s }
 {
-    let rest = minus(s.high, s.low);
+    let rest = s.high.saturating_sub(s.low);
     if s.halves { s.low + rest / 2 } else { s.low }
 }
 
@@ -104,7 +85,7 @@ fn halve(s: Search, g: u64) -> Search
     ensures { result ≡ halved s g }
 {
     let at = place(s);
-    let probes = one_more(s.probes);
+    let probes = s.probes.saturating_add(1);
     if s.number < g {
         Search {
             low: s.low,
@@ -153,15 +134,11 @@ pub fn scanning(n: usize) -> Search
 }
 
 // What the search for the first fall among n records found, when it has ended (RULES.md, 15). It refuses nothing.
-// Example: of the granule positions 3, 3, 2 and 1 it is `At(2)`, and of 1, 2 and 2 it is `Nowhere`.
-pub fn fall_of(s: Search, n: usize) -> Fall
-    ensures { told_fall result ≡ fall_of s n }
+// Example: of the granule positions 3, 3, 2 and 1 it is `Some(2)`, and of 1, 2 and 2 it is `None`.
+pub fn fall_of(s: Search, n: usize) -> Option<usize>
+    ensures { given result ≡ fall_of s n }
 {
-    if s.low < n {
-        Fall::At(s.low)
-    } else {
-        Fall::Nowhere
-    }
+    if s.low < n { Some(s.low) } else { None }
 }
 
 // By halving among the first n records, up to the limit.
@@ -179,13 +156,13 @@ fn halving_among(n: usize, limit: u64) -> Search
 
 // The search for the last of n records at or before the target less the pre-roll, before its first probe (RULES.md, 15;
 // RFC 7845, 4.6). It refuses nothing; where there is a fall, or the target is below the pre-roll, it has no place to look at.
-// Example: `halving(Fall::Nowhere, 5, 10840)` looks for the last granule position at or before 7,000 among 5.
-pub fn halving(f: Fall, n: usize, target: u64) -> Search
-    ensures { result ≡ halving_of (told_fall f) n target }
+// Example: `halving(None, 5, 10840)` looks for the last granule position at or before 7,000 among 5.
+pub fn halving(f: Option<usize>, n: usize, target: u64) -> Search
+    ensures { result ≡ halving_of (given f) n target }
 {
     match f {
-        Fall::At(_) => halving_among(0, 0),
-        Fall::Nowhere => {
+        Some(_) => halving_among(0, 0),
+        None => {
             if target < PRE_ROLL {
                 return halving_among(0, 0);
             }
@@ -197,12 +174,12 @@ pub fn halving(f: Fall, n: usize, target: u64) -> Search
 // What seeking answers, by the first fall and the search by halving when it has ended (RULES.md, 15). Refuses with 26 where
 // there is a fall, whatever the target.
 // Example: of the granule positions 5,000, 6,000, 7,000, 7,000 and 8,000, and the target 10,840, it is `Record(3, 3)`.
-pub fn answer(f: Fall, s: Search) -> Sought
-    ensures { told_sought result ≡ answer_of (told_fall f) s }
+pub fn answer(f: Option<usize>, s: Search) -> Sought
+    ensures { told_sought result ≡ answer_of (given f) s }
 {
     match f {
-        Fall::At(i) => Sought::Refused(Refusal::FallingGranule, i),
-        Fall::Nowhere => {
+        Some(i) => Sought::Refused(Refusal::FallingGranule, i),
+        None => {
             if 0 < s.low {
                 Sought::Record(s.low - 1, s.probes)
             } else {

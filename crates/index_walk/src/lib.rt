@@ -9,7 +9,8 @@ ghost use Rattle.index_walk.specs.Walk.{due_after, is_recorded, begun_at, steppe
 
 use index_search::IndexRecord;
 
-// A place past the end of every list of records.
+// A place past the end of every list of records. Stays a number: storing there is storing nothing, so no caller has a case for
+// it.
 pub const NOWHERE: usize = 18446744073709551615;
 
 // What the next page of a stream is.

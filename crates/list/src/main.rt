@@ -32,12 +32,6 @@ struct Listing {
     stop: Stop,
 }
 
-#[derive(Clone, Copy)]
-enum Step {
-    Goes(Listing),
-    Ends,
-}
-
 // What a read gave.
 #[derive(Clone, Copy)]
 enum Input {
@@ -59,19 +53,13 @@ fn fail(streams: Streams, what: &str, why: Error) {
     let _said = writeln!(errors, "list: {what}: {why}");
 }
 
-// Writes the first n bytes of the output. A failure is said on standard error.
-fn write_out(streams: Streams, out: &[u8], n: usize) -> bool {
+// Writes the first n bytes of the output.
+fn write_out(streams: Streams, out: &[u8], n: usize) -> Result<(), Error> {
     let mut output = streams.output;
-    match output.write_all(octets::part_of(out, 0, n)) {
-        Ok(_) => true,
-        Err(why) => {
-            fail(streams, "cannot write", why);
-            false
-        }
-    }
+    output.write_all(octets::part_of(out, 0, n))
 }
 
-// One read, to the place `at` of the buffer. A failure is said on standard error.
+// One read, to the place `at` of the buffer. A failure is said on standard error at once: what is listed so far is still written.
 fn read_more(streams: Streams, buffer: &mut [u8], at: usize) -> Input {
     let start = octets::least(at, buffer.len());
     let mut input = streams.input;
@@ -148,7 +136,7 @@ fn put_lines(
     kept: &[u64],
     frames: &[u64],
     out: &mut [u8],
-) -> Step {
+) -> Result<Listing, Error> {
     let put = list_entries::put_entries(
         out,
         w.filled,
@@ -160,14 +148,12 @@ fn put_lines(
     let listed = std::num::wrapping_add_usize(w.listed, put.count);
     let mut filled = put.at;
     if listed < w.packets {
-        if !write_out(streams, out, filled) {
-            return Step::Ends;
-        }
+        write_out(streams, out, filled)?;
         filled = 0;
     }
     let reader = w.reader;
     let stop = w.stop;
-    Step::Goes(Listing {
+    Ok(Listing {
         reader,
         from: w.from,
         to: w.to,
@@ -179,41 +165,47 @@ fn put_lines(
     })
 }
 
-fn end_with_refusal(streams: Streams, w: Listing, why: Refusal, out: &mut [u8]) {
-    if write_out(streams, out, w.filled) {
-        let n = list_lines::put_refused(out, 0, refusal::number(why) as u64, w.pages);
-        write_out(streams, out, n);
-    }
+fn end_with_refusal(
+    streams: Streams,
+    w: Listing,
+    why: Refusal,
+    out: &mut [u8],
+) -> Result<(), Error> {
+    write_out(streams, out, w.filled)?;
+    let n = list_lines::put_refused(out, 0, refusal::number(why) as u64, w.pages);
+    write_out(streams, out, n)
 }
 
-fn end_with_total(streams: Streams, w: Listing, out: &mut [u8]) {
-    if write_out(streams, out, w.filled) {
-        let s = reader::totals(w.reader);
-        let n = list_lines::put_total(out, 0, s.kept, s.skipped, s.trimmed, s.hole);
-        write_out(streams, out, n);
-    }
+fn end_with_total(streams: Streams, w: Listing, out: &mut [u8]) -> Result<(), Error> {
+    write_out(streams, out, w.filled)?;
+    let s = reader::totals(w.reader);
+    let n = list_lines::put_total(out, 0, s.kept, s.skipped, s.trimmed, s.hole);
+    write_out(streams, out, n)
 }
 
-// More input, where the last page of the buffer is not whole.
-fn read_on(streams: Streams, w: Listing, buffer: &mut [u8], out: &mut [u8]) -> Step {
+// More input, where the last page of the buffer is not whole; none where the listing has ended.
+fn read_on(
+    streams: Streams,
+    w: Listing,
+    buffer: &mut [u8],
+    out: &mut [u8],
+) -> Result<Option<Listing>, Error> {
     let n = buffers::move_down(buffer, w.from, w.to);
     match read_more(streams, buffer, n) {
-        Input::Bytes(to) => Step::Goes(moved(w, 0, to, Stop::Full)),
+        Input::Bytes(to) => return Ok(Some(moved(w, 0, to, Stop::Full))),
         Input::End => {
             if n == 0 {
-                end_with_total(streams, w, out);
+                end_with_total(streams, w, out)?;
             } else {
-                end_with_refusal(streams, w, feed_partial::refusal_of_rest(w.reader), out);
+                end_with_refusal(streams, w, feed_partial::refusal_of_rest(w.reader), out)?;
             }
-            Step::Ends
         }
-        Input::Failed => {
-            write_out(streams, out, w.filled);
-            Step::Ends
-        }
+        Input::Failed => write_out(streams, out, w.filled)?,
     }
+    Ok(None)
 }
 
+// The listing after one step more: none where it has ended.
 fn turn(
     streams: Streams,
     w: Listing,
@@ -224,17 +216,21 @@ fn turn(
     kept: &mut [u64],
     frames: &mut [u64],
     out: &mut [u8],
-) -> Step {
+) -> Result<Option<Listing>, Error> {
     if w.listed < w.packets {
-        return put_lines(streams, w, ends, lengths, kept, frames, out);
+        let next = put_lines(streams, w, ends, lengths, kept, frames, out)?;
+        return Ok(Some(next));
     }
     let stop = w.stop;
     match stop {
-        Stop::Full => Step::Goes(feed_more(w, buffer, carry, ends, lengths, kept, frames)),
+        Stop::Full => {
+            let next = feed_more(w, buffer, carry, ends, lengths, kept, frames);
+            Ok(Some(next))
+        }
         Stop::Cut => read_on(streams, w, buffer, out),
         Stop::Refused(why) => {
-            end_with_refusal(streams, w, why, out);
-            Step::Ends
+            end_with_refusal(streams, w, why, out)?;
+            Ok(None)
         }
     }
 }
@@ -250,16 +246,17 @@ fn run(
     kept: &mut [u64],
     frames: &mut [u64],
     out: &mut [u8],
-) {
+) -> Result<(), Error> {
     let mut w = start;
     let mut turns = u64::MAX;
     while turns > 0 {
-        match turn(streams, w, buffer, carry, ends, lengths, kept, frames, out) {
-            Step::Goes(next) => w = next,
-            Step::Ends => return,
+        match turn(streams, w, buffer, carry, ends, lengths, kept, frames, out)? {
+            Some(next) => w = next,
+            None => return Ok(()),
         }
         turns -= 1;
     }
+    Ok(())
 }
 
 fn main(rt: HostRuntime) {
@@ -286,7 +283,7 @@ fn main(rt: HostRuntime) {
         pages: 0,
         stop: Stop::Cut,
     };
-    run(
+    let listed = run(
         streams,
         start,
         &mut buffer,
@@ -297,4 +294,7 @@ fn main(rt: HostRuntime) {
         &mut frames,
         &mut out,
     );
+    if let Err(why) = listed {
+        fail(streams, "cannot write", why);
+    }
 }

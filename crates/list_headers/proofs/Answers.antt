@@ -1,4 +1,5 @@
 -- The ways of writing the lines of both headers, by what reading the packets tells. Assumes nothing.
+use Rattle.std.specs.Prelude.{Result, Ok, Err}
 use mathlib.Core.Path.{◌≡◌, refl, sym, ap, ◌∙◌}
 use mathlib.Core.Bool.{Bool, true, false, ◌&&◌}
 use mathlib.Core.List.{List, [], ◌∷◌}
@@ -26,8 +27,6 @@ use Rattle.tags_layout.specs.Layout.{signature, Tags, vendor_place, first_place,
 use Rattle.tags_reader.specs.Right.{right_tags, is_tags}
 use Rattle.tags_reader.specs.Reading as tagsReading
 use Rattle.tags_reader.proofs.Finding.{length_texts}
-use Rattle.list_headers.specs.declared.HeadersWritten.{HeadersWritten}
-use Rattle.list_headers.specs.declared.HeadersWritten.TheVariants.{Refused}
 use Rattle.list_headers.specs.Text.{tags_pieces, header_pieces}
 use Rattle.list_headers.specs.Code.{tags_found, both_found}
 use Rattle.list_headers.specs.Writing.{pieces_of, text_of, both_checks, write_told, write_out, laid_in, told_laid, BothPut, Wrote}
@@ -115,7 +114,7 @@ module _ (head tags out : Bytes) where
   unfolding write_out
   out_by = rw (first_of-append (headReading.read_checks head) (tagsReading.read_checks tags))
 
-  pub head-refused : (why : Refusal) → headReading.read_head head ≡ refuses (number_of why) → Wrote head tags out (Refused why) out
+  pub head-refused : (why : Refusal) → headReading.read_head head ≡ refuses (number_of why) → Wrote head tags out (Err why) out
   unfolding headReading.read_head
   head-refused why e = record {
     told = first-told out [] (length (text_of head tags)) (number_of why) (head_of head) of_head of_tags room e ∙ sym told-by;
@@ -128,7 +127,7 @@ module _ (head tags out : Bytes) where
     head_clear = no_refusal of_head (head_of head) h read
 
     pub tags-refused : (why : Refusal) → retold tagsReading.comment_count (tagsReading.read_tags tags) ≡ refuses (number_of why)
-        → Wrote head tags out (Refused why) out
+        → Wrote head tags out (Err why) out
     unfolding tagsReading.read_tags
     tags-refused why e =
         let clear = head_clear.0 in
@@ -153,7 +152,7 @@ module _ (head tags out : Bytes) where
     unfolding header_pieces
     same_pieces m n em right count = rw (same-matrix m em, ← head_clear.1, found-tags tags n right count)
 
-    pub both_read : (m : Bytes) (n : ℕ) (r : HeadersWritten) (end : Bytes) → m ≡ matrix_in (headReading.read_matrix head)
+    pub both_read : (m : Bytes) (n : ℕ) (r : Result ℕ Refusal) (end : Bytes) → m ≡ matrix_in (headReading.read_matrix head)
         → retold tagsReading.comment_count (tagsReading.read_tags tags) ≡ gives n
         → BothPut (lay_all (begun out) (both_found h m tags n)) r end → Wrote head tags out r end
     unfolding tagsReading.read_tags

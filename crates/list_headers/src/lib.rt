@@ -9,20 +9,8 @@ ghost use Rattle.list_headers.specs.Code.{found_entries, found_comments, tags_fo
 ghost use Rattle.list_headers.specs.Writing.{BothPut, Wrote};
 
 use head_fields::Head;
-use head_matrix::EntryRead;
-use head_reader::Verdict;
 use refusal::Refusal;
-use tags_layout::PartRead;
-use tags_reader::TagsRead;
 use text_pieces::Pieces;
-
-#[derive(Clone, Copy)]
-pub enum HeadersWritten {
-    // how many bytes the lines have
-    Bytes(usize),
-    // 12, 13, 14 or 22
-    Refused(Refusal),
-}
 
 // ---- the identification header
 
@@ -65,8 +53,8 @@ fn put_entries(start: Pieces, m: &[u8], n: usize, out: &mut [u8]) -> Pieces
     let mut i = 0;
     while left > 0 {
         match head_matrix::entry_at(m, i) {
-            EntryRead::Entry(x) => p = text_pieces::after(p, head_lines::put_entry(out, p.at, x)),
-            EntryRead::Refused(_) => return p,
+            Ok(x) => p = text_pieces::after(p, head_lines::put_entry(out, p.at, x)),
+            Err(_) => return p,
         }
         left -= 1;
         i += 1;
@@ -114,12 +102,12 @@ fn put_comments(start: Pieces, b: &[u8], n: usize, first: usize, out: &mut [u8])
     let mut place = first;
     while left > 0 {
         match tags_layout::find_text(b, place) {
-            PartRead::Found(part) => {
+            Ok(part) => {
                 let comment = octets::part_of(b, part.start, part.size);
                 p = text_pieces::after(p, tags_lines::put_comment(out, p.at, comment));
                 place = part.start + part.size;
             }
-            PartRead::Refused(_) => return p,
+            Err(_) => return p,
         }
         left -= 1;
     }
@@ -142,33 +130,27 @@ fn put_tags(p: Pieces, b: &[u8], n: usize, out: &mut [u8]) -> Pieces
 // ---- both
 
 // The lines of two packets that were read: the fields and the matrix of the first, and n comments of the second.
-fn put_both(h: Head, m: &[u8], tags: &[u8], n: usize, out: &mut [u8]) -> HeadersWritten
+fn put_both(h: Head, m: &[u8], tags: &[u8], n: usize, out: &mut [u8]) -> Result<usize, Refusal>
     ensures { BothPut (lay_all (begun out.old) (both_found h m.now tags.now n))
         result out.new }
 {
     let p = put_head(text_pieces::begin(), h, m, out);
     let p = put_tags(p, tags, n, out);
     if p.whole {
-        return HeadersWritten::Bytes(p.at);
+        return Ok(p.at);
     }
-    HeadersWritten::Refused(Refusal::ShortOutput)
+    Err(Refusal::ShortOutput)
 }
 
 // All lines that show an identification header and a comment header, at the start of `out` (RULES.md, 13). 12 and 13: as
 // `head_reader::read_head` tells of the first packet. 14: neither, and the second is no comment header. 22: none of these, and
 // the lines do not fit; then `out` has those pieces of them that fit one after the other. Under the other numbers it stays.
-// Example: two right packets give `HeadersWritten::Bytes(n)`, where `out` has room for the lines.
-pub fn write_headers(head: &[u8], tags: &[u8], out: &mut [u8]) -> HeadersWritten
+// Example: two right packets give `Ok(n)`, where `out` has room for the lines.
+pub fn write_headers(head: &[u8], tags: &[u8], out: &mut [u8]) -> Result<usize, Refusal>
     ensures { Wrote head.now tags.now out.old result out.new }
 {
     let read = head_reader::read_head(head);
-    let h = read.head;
-    let verdict = read.verdict;
-    match verdict {
-        Verdict::Right => match tags_reader::read_tags(tags) {
-            TagsRead::Count(n) => put_both(h, head_matrix::matrix(head), tags, n, out),
-            TagsRead::Refused(why) => HeadersWritten::Refused(why),
-        },
-        Verdict::Refused(why) => HeadersWritten::Refused(why),
-    }
+    read.verdict?;
+    let n = tags_reader::read_tags(tags)?;
+    put_both(read.head, head_matrix::matrix(head), tags, n, out)
 }

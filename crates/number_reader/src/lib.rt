@@ -14,9 +14,8 @@ fn number_at(s: &[u8], at: usize, n: usize) -> u64
         return 0;
     }
     let mut x: u64 = 0;
-    for j in 0..n {
-        let b = octets::byte_at(s, at + (n - 1 - j));
-        x = x * 256 + octets::wide(b) as u64;
+    for i in (0..n).rev() {
+        x = x * 256 + u64::from(octets::byte_at(s, at + i));
     }
     x
 }

@@ -10,11 +10,7 @@ ghost use Rattle.std.proofs.Common.{to_z, of_z};
 pub fn signed16(x: u16) -> i16
     ensures { result ≡ to_z w16 x }
 {
-    if x < 32768 {
-        return x as i16;
-    }
-    let y = (65535 - x) as i16;
-    -1 - y
+    x.cast_signed()
 }
 
 // The 16 bits of a signed number: one of 0 or above as it is, any other plus 65,536 (RULES.md, 4, the output gain).
@@ -22,9 +18,5 @@ pub fn signed16(x: u16) -> i16
 pub fn unsigned16(g: i16) -> u16
     ensures { result ≡ of_z w16 g }
 {
-    if g >= 0 {
-        return g as u16;
-    }
-    let y = (-1 - g) as u16;
-    65535 - y
+    g.cast_unsigned()
 }

@@ -4,3 +4,4 @@ pub mod Parts
 pub mod Fields
 pub mod Tests
 pub mod Beginnings
+pub mod Chains

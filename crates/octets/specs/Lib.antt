@@ -1,3 +1,4 @@
 pub mod Pick
+pub mod Given
 pub mod Octets
 pub mod Numbers

@@ -9,14 +9,14 @@ ghost use Rattle.octets.specs.Octets.{Widened, begins, copied};
 pub fn least(a: usize, b: usize) -> usize
     ensures { result ≡ min a b }
 {
-    if a < b { a } else { b }
+    a.min(b)
 }
 
 // The byte at a place, 0 past the end. Example: `byte_at(b"ab", 1)` is 98, and `byte_at(b"ab", 2)` is 0.
 pub fn byte_at(s: &[u8], at: usize) -> u8
     ensures { result ≡ get_or s.now at 0 }
 {
-    if at < s.len() { s[at] } else { 0 }
+    s.get(at).copied().unwrap_or(0)
 }
 
 // Whether the bytes s begin with p.
@@ -24,17 +24,7 @@ pub fn byte_at(s: &[u8], at: usize) -> u8
 pub fn begins_with(s: &[u8], p: &[u8]) -> bool
     ensures { result ≡ begins p.now s.now }
 {
-    if s.len() < p.len() {
-        return false;
-    }
-    let mut i = 0;
-    while i < p.len() {
-        if p[i] != s[i] {
-            return false;
-        }
-        i += 1;
-    }
-    true
+    s.starts_with(p)
 }
 
 // The n bytes from `at` on, or as many of them as are there.
@@ -42,16 +32,15 @@ pub fn begins_with(s: &[u8], p: &[u8]) -> bool
 pub fn part_of(s: &[u8], at: usize, n: usize) -> &[u8]
     ensures { result.now ≡ take n (drop at s.now) }
 {
-    let start = least(at, s.len());
-    let end = start + least(n, s.len() - start);
-    &s[start..end]
+    let rest = &s[at.min(s.len())..];
+    &rest[..n.min(rest.len())]
 }
 
 // A byte as a count or an index. Example: `wide(255)` is 255.
 pub fn wide(x: u8) -> usize
     ensures { Widened x result }
 {
-    x as usize
+    usize::from(x)
 }
 
 // Whether n bytes from `at` on pass the end of a buffer of `len` bytes.
@@ -59,10 +48,7 @@ pub fn wide(x: u8) -> usize
 pub fn is_short(len: usize, at: usize, n: usize) -> bool
     ensures { result ≡ ltb len (at + n) }
 {
-    if len < at {
-        return true;
-    }
-    len - at < n
+    len < at || len - at < n
 }
 
 // Copies all of s into d from place `at` on, or nothing where it does not fit.
@@ -73,9 +59,5 @@ pub fn copy_at(d: &mut [u8], at: usize, s: &[u8])
     if is_short(d.len(), at, s.len()) {
         return;
     }
-    let mut j = 0;
-    while j < s.len() {
-        d[at + j] = s[j];
-        j += 1;
-    }
+    d[at..at + s.len()].copy_from_slice(s);
 }

@@ -1,6 +1,7 @@
 -- The old clock (RULES.md, 10, refusal 30): one record holds an f32 reading and the exact count of samples. Each packet adds
 -- its length to both. Assumes nothing.
-use Rattle.std.specs.Prelude.{ℕ, ◌+◌, ◌-◌, ◌%◌, ◌^◌, Bool, true, false, not, ◌&&◌, List, [], ◌∷◌, ltb, leb, eqb, pos}
+use Rattle.refusal.specs.declared.Refusal.{Refusal}
+use Rattle.std.specs.Prelude.{Result, Ok, Err, ℕ, ◌+◌, ◌-◌, ◌%◌, ◌^◌, Bool, true, false, not, ◌&&◌, List, [], ◌∷◌, ltb, leb, eqb, pos}
 use Rattle.std.specs.Float.{fin, binary32}
 use Rattle.std.specs.Float.Ieee.{add, of_int}
 use Rattle.refusal.specs.declared.Refusal.TheVariants.{ClockRange}
@@ -8,8 +9,6 @@ use Rattle.refusal.specs.Checks.{Check, ◌when◌, first_of}
 use Rattle.refusal.specs.Told.{Told, gives, refuses, decided}
 use Rattle.refusal.specs.Numbers.{number_of}
 use Rattle.old_clock.specs.declared.Clock.{Clock}
-use Rattle.old_clock.specs.declared.Added.{Added}
-use Rattle.old_clock.specs.declared.Added.TheVariants.{Clock as Next, Refused}
 
 -- both from 0
 abbrev pub start_clock : Clock
@@ -36,11 +35,6 @@ advanced c n = record { reading = add binary32 c.reading (of_int binary32 (pos n
 
 unfoldable pub add_samples : Clock → ℕ → Told Clock
 add_samples c n = decided (first_of (add_checks c n)) (advanced c n)
-
--- what the code's answer tells
-abbrev pub told_added : Added → Told Clock
-told_added (Next c) = gives c
-told_added (Refused r) = refuses (number_of r)
 
 -- ---- one packet after another
 

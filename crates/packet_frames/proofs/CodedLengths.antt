@@ -1,5 +1,6 @@
 -- Coded lengths and the padding's length, way by way: what is read at a place of s, and how a loop over them goes on.
 -- Assumes nothing.
+use Rattle.std.specs.Prelude.{Option, Some, None}
 use mathlib.Core.Path.{◌≡◌, refl, sym, ap, ◌∙◌}
 use mathlib.Core.Bool.{Bool, true, false}
 use mathlib.Core.List.{List, [], ◌∷◌}
@@ -15,7 +16,6 @@ use Rattle.octets.specs.Octets.{Bytes, total}
 use Rattle.packet_frames.specs.Frames.{Read, short, value, coded, with_first, and_later, coded_times, padding_from}
 use Rattle.packet_frames.specs.Code.{FoundIs, ValueIn, summed, capped}
 use Rattle.packet_frames.specs.declared.Found.{Found}
-use Rattle.packet_frames.specs.declared.Found.TheVariants.{Missing, Value}
 
 -- a number n was read of s, and `next` is the place after it
 pub record Got (s : Bytes) (k n next : ℕ) (t : Read ℕ) : Type 0 where
@@ -23,11 +23,11 @@ pub record Got (s : Bytes) (k n next : ℕ) (t : Read ℕ) : Type 0 where
   pub within : ValueIn s k n next
 
 -- what a call promises of its answer r, by the variant
-module _ (s : Bytes) (k : ℕ) where
-  pub missing : {r : Found} {t : Read ℕ} → r ≡ Missing → FoundIs s k t r → short ≡ t
+module _ (s : Bytes) (k : ℕ) {r : Option Found} {t : Read ℕ} where
+  pub missing : r ≡ None → FoundIs s k t r → short ≡ t
   missing e p = rw e at p.told
 
-  pub found : {r : Found} {t : Read ℕ} {n next : ℕ} → r ≡ Value n next → FoundIs s k t r → Got s k n next t
+  pub found : {x : Found} → r ≡ Some x → FoundIs s k t r → Got s k x.value x.next t
   found e p = record { told = rw e at p.told; within = rw e at p.within }
 
 -- the byte n at a place of s, and what follows it

@@ -1,22 +1,19 @@
 -- What the functions answer, in the code's words: a number with the place that follows it, how the frames lie, and how many
 -- they are. Assumes nothing.
-use Rattle.std.specs.Prelude.{ℕ, ◌+◌, ◌≤◌, ◌≡◌, Bool, List, ltb, eqb, length, get_or, drop}
+use Rattle.std.specs.Prelude.{Option, Some, None, ℕ, ◌+◌, ◌≤◌, ◌≡◌, Bool, List, ltb, eqb, length, get_or, drop}
 use Rattle.octets.specs.Pick.{pick}
 use Rattle.octets.specs.Octets.{Bytes, total}
 use Rattle.packet_frames.specs.declared.Found.{Found}
-use Rattle.packet_frames.specs.declared.Found.TheVariants.{Missing, Value}
 use Rattle.packet_frames.specs.declared.Layout.{Layout}
-use Rattle.packet_frames.specs.declared.Layout.TheVariants.{Illegal as IllegalLayout, Frames as FramesLie}
 use Rattle.packet_frames.specs.declared.Framed.{Framed}
-use Rattle.packet_frames.specs.declared.Framed.TheVariants.{Illegal, Frames}
 use Rattle.packet_frames.specs.Frames.{Read, short, value, R1, padding_from, is_silent}
 use Rattle.packet_frames.specs.Packet.{Shape, broken, shape, counted_shape, shape_of}
 use Rattle.packet_frames.specs.Packet.{Parsed, breaks, frames, parse_shape}
 
 -- a number and the place after it, in s
-abbrev pub told_found : Bytes → Found → Read ℕ
-told_found s Missing = short
-told_found s (Value n next) = value n (drop next s)
+abbrev pub told_found : Bytes → Option Found → Read ℕ
+told_found s None = short
+told_found s (Some r) = value r.value (drop r.next s)
 
 -- a number n of at most k, and the place `next` in s
 pub record ValueIn (s : Bytes) (k n next : ℕ) : Type 0 where
@@ -24,12 +21,12 @@ pub record ValueIn (s : Bytes) (k n next : ℕ) : Type 0 where
   pub inside : next ≤ length s
 
 -- what is found is at most k, and its next place is in s
-abbrev pub Within : Bytes → ℕ → Found → Type 0
-Within s k Missing = Unit {0}
-Within s k (Value n next) = ValueIn s k n next
+abbrev pub Within : Bytes → ℕ → Option Found → Type 0
+Within s k None = Unit {0}
+Within s k (Some r) = ValueIn s k r.value r.next
 
 -- the answer r tells what was read of s
-pub record FoundIs (s : Bytes) (k : ℕ) (read : Read ℕ) (r : Found) : Type 0 where
+pub record FoundIs (s : Bytes) (k : ℕ) (read : Read ℕ) (r : Option Found) : Type 0 where
   pub told : told_found s r ≡ read
   pub within : Within s k r
 
@@ -65,9 +62,9 @@ counted_in s = plain_of (length s) (counted_shape (get_or s 0 0) (drop 1 s))
 abbrev pub plain_in : Bytes → Plain
 plain_in s = plain_of (length s) (shape_of s)
 
-abbrev pub told_layout : Bytes → Layout → Plain
-told_layout s IllegalLayout = none
-told_layout s (FramesLie m vary p at) = plain m vary p (drop at s)
+abbrev pub told_layout : Bytes → Option Layout → Plain
+told_layout s None = none
+told_layout s (Some r) = plain r.count r.vary r.padding (drop r.at s)
 
 -- m frames, p bytes of padding, and the place `at` in s of what follows
 pub record FramesIn (s : Bytes) (m p at : ℕ) : Type 0 where
@@ -76,12 +73,12 @@ pub record FramesIn (s : Bytes) (m p at : ℕ) : Type 0 where
   pub padding : p ≤ length s
   pub inside : at ≤ length s
 
-abbrev pub Sound : Bytes → Layout → Type 0
-Sound s IllegalLayout = Unit {0}
-Sound s (FramesLie m vary p at) = FramesIn s m p at
+abbrev pub Sound : Bytes → Option Layout → Type 0
+Sound s None = Unit {0}
+Sound s (Some r) = FramesIn s r.count r.padding r.at
 
 -- the answer r tells how the frames of s lie
-pub record LayoutIs (s : Bytes) (stand : Plain) (r : Layout) : Type 0 where
+pub record LayoutIs (s : Bytes) (stand : Plain) (r : Option Layout) : Type 0 where
   pub told : told_layout s r ≡ stand
   pub sound : Sound s r
 
@@ -115,16 +112,16 @@ abbrev pub placed_in : ℕ → ℕ → ℕ → Bytes → Read Outline
 placed_in m n p s = pick (ltb (length s) (n + p)) short (value (record { count = m; silent = eqb n 0 }) (drop (n + p) s))
 
 -- frames and the place after them, in s
-abbrev pub told_framed : Bytes → Framed → Read Outline
-told_framed s Illegal = short
-told_framed s (Frames m empty next) = value (record { count = m; silent = empty }) (drop next s)
+abbrev pub told_framed : Bytes → Option Framed → Read Outline
+told_framed s None = short
+told_framed s (Some r) = value (record { count = r.count; silent = r.silent }) (drop r.next s)
 
 -- there are at most 63 frames, as many as a count byte can tell, and the place after them is in s
-abbrev pub FramedIn : Bytes → Framed → Type 0
-FramedIn s Illegal = Unit {0}
-FramedIn s (Frames m empty next) = ValueIn s 63 m next
+abbrev pub FramedIn : Bytes → Option Framed → Type 0
+FramedIn s None = Unit {0}
+FramedIn s (Some r) = ValueIn s 63 r.count r.next
 
 -- the answer r tells the frames that were read of s
-pub record FramedIs (s : Bytes) (read : Read Outline) (r : Framed) : Type 0 where
+pub record FramedIs (s : Bytes) (read : Read Outline) (r : Option Framed) : Type 0 where
   pub told : told_framed s r ≡ read
   pub within : FramedIn s r

@@ -13,250 +13,249 @@ pub const FRAME_MAX: usize = 1275;
 // No packet has more samples, 120 ms (RFC 6716, 3.4, R5).
 const SAMPLES_MAX: usize = 5760;
 
+// A number read at a place, and the place after it.
 #[derive(Clone, Copy)]
-enum Found {
-    // there are too few bytes
-    Missing,
-    // a number read at a place, and the place after it
-    Value(usize, usize),
+struct Found {
+    value: usize,
+    next: usize,
 }
 
+// How many frames a packet has, whether all of them are empty, and the place after the packet.
 #[derive(Clone, Copy)]
-pub enum Framed {
-    // there are too few bytes, or the packet is illegal
-    Illegal,
-    // how many frames, whether all of them are empty, and the place after the packet
-    Frames(usize, bool, usize),
+pub struct Framed {
+    pub count: usize,
+    pub silent: bool,
+    pub next: usize,
 }
 
-// How the frames of a packet lie in it.
+// How the frames of a packet lie in it: how many, whether each has a length of its own, the bytes of padding at the end, and
+// the place of what follows.
 #[derive(Clone, Copy)]
-enum Layout {
-    Illegal,
-    // how many, whether each has a length of its own, the bytes of padding at the end, and the place of what follows
-    Frames {
-        count: usize,
-        vary: bool,
-        padding: usize,
-        at: usize,
-    },
+struct Layout {
+    count: usize,
+    vary: bool,
+    padding: usize,
+    at: usize,
 }
 
 // One coded length: a byte up to 251, or a larger one and four times the next.
-fn coded_length(s: &[u8], at: usize) -> Found
+fn coded_length(s: &[u8], at: usize) -> Option<Found>
     ensures { FoundIs s.now frame_max (coded (drop at s.now)) result }
 {
     if s.len() <= at {
-        return Found::Missing;
+        return None;
     }
     let first = octets::wide(s[at]);
     if first < 252 {
-        return Found::Value(first, at + 1);
+        return Some(Found {
+            value: first,
+            next: at + 1,
+        });
     }
     if s.len() - at < 2 {
-        return Found::Missing;
+        return None;
     }
     let second = octets::wide(s[at + 1]);
-    Found::Value(first + 4 * second, at + 2)
+    Some(Found {
+        value: first + 4 * second,
+        next: at + 2,
+    })
 }
 
 // n coded lengths one after the other: their sum.
-fn coded_lengths(s: &[u8], at: usize, n: usize) -> Found
+fn coded_lengths(s: &[u8], at: usize, n: usize) -> Option<Found>
     requires { FramesAt s.now at n }
     ensures { FoundIs s.now 80325 (summed (coded_times n (drop at s.now))) result }
 {
     let mut sum: usize = 0;
     let mut place = at;
-    let mut i = 0;
-    while i < n {
-        let Found::Value(length, next) = coded_length(s, place) else {
-            return Found::Missing;
-        };
-        sum += length;
-        place = next;
-        i += 1;
+    for _i in 0..n {
+        let length = coded_length(s, place)?;
+        sum += length.value;
+        place = length.next;
     }
-    Found::Value(sum, place)
+    Some(Found {
+        value: sum,
+        next: place,
+    })
 }
 
 // The length of the padding. One that is longer than all of s counts as none: the packet is illegal either way.
-fn padding_length(s: &[u8], at: usize) -> Found
+fn padding_length(s: &[u8], at: usize) -> Option<Found>
     ensures { FoundIs s.now (length s.now) (padding_in s.now at) result }
 {
     let mut bytes: usize = 0;
-    let mut place = at;
-    while place < s.len() {
+    for place in at..s.len() {
         let v = octets::wide(s[place]);
-        place += 1;
         if v < 255 {
             if s.len() < bytes + v {
-                return Found::Missing;
+                return None;
             }
-            return Found::Value(bytes + v, place);
+            return Some(Found {
+                value: bytes + v,
+                next: place + 1,
+            });
         }
         bytes += 254;
         if s.len() < bytes {
-            return Found::Missing;
+            return None;
         }
     }
-    Found::Missing
+    None
 }
 
 // The layout of a packet of code 3, by its count byte.
-fn counted_layout(s: &[u8]) -> Layout
+fn counted_layout(s: &[u8]) -> Option<Layout>
     ensures { LayoutIs s.now (counted_in s.now) result }
 {
     if s.len() < 2 {
-        return Layout::Illegal;
+        return None;
     }
     let c = octets::wide(s[1]);
     let count = c % 64;
     let vary = c >= 128;
     let samples = packet_toc::frame_samples(s[0]);
-    if count == 0 {
-        return Layout::Illegal;
+    let empty = count == 0;
+    if empty {
+        return None;
     }
-    if count * (samples as usize) > SAMPLES_MAX {
-        return Layout::Illegal;
+    let over = count * (samples as usize) > SAMPLES_MAX;
+    if over {
+        return None;
     }
     if c / 64 % 2 != 1 {
-        return Layout::Frames {
+        return Some(Layout {
             count,
             vary,
             padding: 0,
             at: 2,
-        };
+        });
     }
-    let Found::Value(padding, at) = padding_length(s, 2) else {
-        return Layout::Illegal;
-    };
-    Layout::Frames {
+    let padding = padding_length(s, 2)?;
+    Some(Layout {
         count,
         vary,
-        padding,
-        at,
-    }
+        padding: padding.value,
+        at: padding.next,
+    })
 }
 
-fn layout_of(s: &[u8]) -> Layout
+fn layout_of(s: &[u8]) -> Option<Layout>
     ensures { LayoutIs s.now (plain_in s.now) result }
 {
     if s.len() == 0 {
-        return Layout::Illegal;
+        return None;
     }
     let code = s[0] % 4;
     match code {
-        0 => Layout::Frames {
+        0 => Some(Layout {
             count: 1,
             vary: true,
             padding: 0,
             at: 1,
-        },
-        1 => Layout::Frames {
+        }),
+        1 => Some(Layout {
             count: 2,
             vary: false,
             padding: 0,
             at: 1,
-        },
-        2 => Layout::Frames {
+        }),
+        2 => Some(Layout {
             count: 2,
             vary: true,
             padding: 0,
             at: 1,
-        },
+        }),
         _ => counted_layout(s),
     }
 }
 
 // Frames of `sum` bytes and the padding after them, from `at` on, if they fit.
-fn placed_frames(s: &[u8], at: usize, count: usize, sum: usize, padding: usize) -> Framed
+fn placed_frames(s: &[u8], at: usize, count: usize, sum: usize, padding: usize) -> Option<Framed>
     requires { FramesAt s.now at count }
     ensures { FramedIs s.now (placed_in count sum padding (drop at s.now)) result }
 {
     if octets::is_short(s.len() - at, padding, sum) {
-        return Framed::Illegal;
+        return None;
     }
-    Framed::Frames(count, sum == 0, at + sum + padding)
+    Some(Framed {
+        count,
+        silent: sum == 0,
+        next: at + sum + padding,
+    })
 }
 
 // Self-delimited: a coded length for each frame, or one for all.
-fn delimited_frames(s: &[u8], at: usize, count: usize, vary: bool, padding: usize) -> Framed
+fn delimited_frames(s: &[u8], at: usize, count: usize, vary: bool, padding: usize) -> Option<Framed>
     requires { FramesAt s.now at count }
     ensures { FramedIs s.now (frames_in true (plain count vary padding (drop at s.now))) result }
 {
     if vary {
-        let Found::Value(sum, next) = coded_lengths(s, at, count) else {
-            return Framed::Illegal;
-        };
-        return placed_frames(s, next, count, sum, padding);
+        let lengths = coded_lengths(s, at, count)?;
+        return placed_frames(s, lengths.next, count, lengths.value, padding);
     }
-    let Found::Value(length, next) = coded_length(s, at) else {
-        return Framed::Illegal;
-    };
-    placed_frames(s, next, count, count * length, padding)
+    let length = coded_length(s, at)?;
+    placed_frames(s, length.next, count, count * length.value, padding)
 }
 
 // The last frame has what the others and the padding leave of the packet.
-fn varied_frames(s: &[u8], at: usize, count: usize, padding: usize) -> Framed
+fn varied_frames(s: &[u8], at: usize, count: usize, padding: usize) -> Option<Framed>
     requires { SomeFramesAt s.now at count }
     ensures { FramedIs s.now (frames_in false (plain count true padding (drop at s.now))) result }
 {
-    let Found::Value(sum, next) = coded_lengths(s, at, count - 1) else {
-        return Framed::Illegal;
-    };
-    let room = s.len() - next;
-    if octets::is_short(room, padding, sum) {
-        return Framed::Illegal;
+    let others = coded_lengths(s, at, count - 1)?;
+    let room = s.len() - others.next;
+    if octets::is_short(room, padding, others.value) {
+        return None;
     }
-    let long = room - padding - sum > FRAME_MAX;
+    let long = room - padding - others.value > FRAME_MAX;
     if long {
-        return Framed::Illegal;
+        return None;
     }
-    Framed::Frames(count, room == padding, s.len())
+    Some(Framed {
+        count,
+        silent: room == padding,
+        next: s.len(),
+    })
 }
 
 // Equal frames share what the padding leaves of the packet.
-fn equal_frames(s: &[u8], at: usize, count: usize, padding: usize) -> Framed
+fn equal_frames(s: &[u8], at: usize, count: usize, padding: usize) -> Option<Framed>
     requires { SomeFramesAt s.now at count }
     ensures { FramedIs s.now (frames_in false (plain count false padding (drop at s.now))) result }
 {
     let room = s.len() - at;
     if room < padding {
-        return Framed::Illegal;
+        return None;
     }
     let bytes = room - padding;
     if bytes % count != 0 {
-        return Framed::Illegal;
+        return None;
     }
     if bytes / count > FRAME_MAX {
-        return Framed::Illegal;
+        return None;
     }
-    Framed::Frames(count, bytes == 0, s.len())
+    Some(Framed {
+        count,
+        silent: bytes == 0,
+        next: s.len(),
+    })
 }
 
-// How many frames a packet has, whether all of them are empty, and the place after it; `Illegal` if it breaks one of the rules
+// How many frames a packet has, whether all of them are empty, and the place after it; `None` if it breaks one of the rules
 // R1 to R7 (RULES.md, 6; RFC 6716, 3.2, 3.4 and Appendix B). A frame is empty if it has no bytes; padding does not count.
 // A self-delimited packet may end before the bytes do; any other takes all of them.
-// Example: `packet_frames(&[0x01, 0xaa, 0xbb], false)` is `Framed::Frames(2, false, 3)`, for two frames of one byte each.
-pub fn packet_frames(s: &[u8], delimited: bool) -> Framed
+// Example: `packet_frames(&[0x01, 0xaa, 0xbb], false)` gives `Some` with the count 2, silent false and next 3: two frames of one
+// byte each.
+pub fn packet_frames(s: &[u8], delimited: bool) -> Option<Framed>
     ensures { FramedIs s.now (outline (parse delimited s.now)) result }
 {
-    let layout = layout_of(s);
-    match layout {
-        Layout::Illegal => Framed::Illegal,
-        Layout::Frames {
-            count,
-            vary,
-            padding,
-            at,
-        } => {
-            if delimited {
-                return delimited_frames(s, at, count, vary, padding);
-            }
-            if vary {
-                return varied_frames(s, at, count, padding);
-            }
-            equal_frames(s, at, count, padding)
-        }
+    let layout = layout_of(s)?;
+    if delimited {
+        return delimited_frames(s, layout.at, layout.count, layout.vary, layout.padding);
     }
+    if layout.vary {
+        return varied_frames(s, layout.at, layout.count, layout.padding);
+    }
+    equal_frames(s, layout.at, layout.count, layout.padding)
 }

@@ -4,14 +4,11 @@ use Rattle.std.specs.Prelude.{ℕ, zero, suc, ◌+◌, ◌*◌, ◌-◌, Bool, t
 use Rattle.octets.specs.Octets.{Bytes}
 use Rattle.refusal.specs.declared.Refusal.TheVariants.{BadMapping, IllegalPacket, MixedLengths}
 use Rattle.refusal.specs.Checks.{Check, ◌when◌, first_of}
-use Rattle.refusal.specs.Told.{Told, gives, refuses, decided}
-use Rattle.refusal.specs.Numbers.{number_of}
+use Rattle.refusal.specs.Told.{Told, decided}
 use Rattle.packet_toc.specs.Toc.{code_of, frame_samples, is_stereo}
 use Rattle.packet_frames.specs.Frames.{frame_max, is_silent}
 use Rattle.packet_frames.specs.Packet.{Parsed, breaks, frames, parse}
 use Rattle.packet_reader.specs.declared.Contents.{Contents}
-use Rattle.packet_reader.specs.declared.PacketRead.{PacketRead}
-use Rattle.packet_reader.specs.declared.PacketRead.TheVariants.{Legal, Refused}
 
 -- a packet's length in samples
 abbrev pub samples_of : Bytes → List ℕ → ℕ
@@ -81,11 +78,6 @@ packet_checks b streams =
 -- what the packet is made of, or a refusal
 unfoldable pub read_packet : Bytes → ℕ → Told Contents
 read_packet b streams = decided (first_of (packet_checks b streams)) (first_contents (measured_of (streams - 1) b))
-
--- what the code's answer tells
-abbrev pub told_packet : PacketRead → Told Contents
-told_packet (Legal c) = gives c
-told_packet (Refused r) = refuses (number_of r)
 
 -- a plain packet of code 0: a first byte, and one frame of at most `frame_max` bytes
 unfoldable pub is_single : Bytes → Bool

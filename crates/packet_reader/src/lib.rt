@@ -1,12 +1,13 @@
 // Audio packets of one or more streams (RFC 7845, 3; RFC 6716, 3 and Appendix B): what they are made of.
 #![tactic(auto)]
 
+ghost use Rattle.refusal.specs.Told.{told};
 ghost use Rattle.std.specs.Prelude.{◌≡◌, ◌-◌, ◌≤◌};
 ghost use Rattle.packet_frames.specs.Packet.{parse};
-ghost use Rattle.packet_reader.specs.Streams.{measured_of, read_packet, told_packet, is_single};
-ghost use Rattle.packet_reader.specs.Code.{made_of, OpusIs, contents_in, agreed, told_lengths, joined};
+ghost use Rattle.packet_reader.specs.Streams.{measured_of, read_packet, is_single};
+ghost use Rattle.packet_reader.specs.Code.{made_of, OpusIs, contents_in, agreed, joined};
 
-use packet_frames::{FRAME_MAX, Framed};
+use packet_frames::FRAME_MAX;
 use refusal::Refusal;
 
 // What feeding lists of an audio packet: its length in samples at 48 kHz, and the number of frames of its first Opus packet.
@@ -25,47 +26,23 @@ pub struct Contents {
     pub silent: bool,
 }
 
+// What an Opus packet is made of, and the place after it.
 #[derive(Clone, Copy)]
-pub enum PacketRead {
-    // what the packet is made of
-    Legal(Contents),
-    // 13, 15 or 16
-    Refused(Refusal),
+struct OpusRead {
+    contents: Contents,
+    next: usize,
 }
 
-#[derive(Clone, Copy)]
-enum OpusRead {
-    Illegal,
-    // what an Opus packet is made of, and the place after it
-    Packet(Contents, usize),
-}
-
-// The lengths of the packets of some streams.
-#[derive(Clone, Copy)]
-enum Lengths {
-    // a packet is illegal
-    Broken,
-    // all are legal, and they differ in length
-    Mixed,
-    // all have the length of the first, which is made of this
-    Same(Contents),
-}
-
-// A packet in front of later ones. What they are is known first, so that an illegal one is told before a length that differs.
-fn with_first(first: Contents, later: Lengths) -> Lengths
-    ensures { told_lengths result ≡ joined first (told_lengths later) }
+// A packet in front of later ones: what it is made of, if they are legal and have its length. What they are is known first, so
+// that an illegal one is told before a length that differs.
+fn with_first(first: Contents, later: Result<Contents, Refusal>) -> Result<Contents, Refusal>
+    ensures { result ≡ joined first later }
 {
-    match later {
-        Lengths::Broken => Lengths::Broken,
-        Lengths::Mixed => Lengths::Mixed,
-        Lengths::Same(second) => {
-            if second.measure.samples == first.measure.samples {
-                Lengths::Same(first)
-            } else {
-                Lengths::Mixed
-            }
-        }
+    let second = later?;
+    if second.measure.samples != first.measure.samples {
+        return Err(Refusal::MixedLengths);
     }
+    Ok(first)
 }
 
 // An Opus packet by its first byte, the number of its frames, and whether they are empty.
@@ -84,49 +61,43 @@ fn made_of(toc: u8, frames: u32, silent: bool) -> Contents
 }
 
 // What an Opus packet is made of, and the place after it.
-fn read_opus(s: &[u8], delimited: bool) -> OpusRead
+fn read_opus(s: &[u8], delimited: bool) -> Option<OpusRead>
     ensures { OpusIs s.now (contents_in s.now (parse delimited s.now)) result }
 {
     let toc = octets::byte_at(s, 0);
-    let Framed::Frames(count, silent, next) = packet_frames::packet_frames(s, delimited) else {
-        return OpusRead::Illegal;
-    };
-    OpusRead::Packet(made_of(toc, count as u32, silent), next)
+    let framed = packet_frames::packet_frames(s, delimited)?;
+    Some(OpusRead {
+        contents: made_of(toc, framed.count as u32, framed.silent),
+        next: framed.next,
+    })
 }
 
 // The last packet, or a self-delimited one and the streams that follow it.
-fn read_streams(s: &[u8], streams: u64) -> Lengths
-    ensures { told_lengths result ≡ agreed (measured_of (streams - 1) s.now) }
+fn read_streams(s: &[u8], streams: u64) -> Result<Contents, Refusal>
+    ensures { result ≡ agreed (measured_of (streams - 1) s.now) }
 {
-    let OpusRead::Packet(first, next) = read_opus(s, streams > 1) else {
-        return Lengths::Broken;
-    };
+    let first = read_opus(s, streams > 1).ok_or(Refusal::IllegalPacket)?;
     if streams <= 1 {
-        return Lengths::Same(first);
+        return Ok(first.contents);
     }
-    let later = read_streams(&s[next..], streams - 1);
-    with_first(first, later)
+    let later = read_streams(&s[first.next..], streams - 1);
+    with_first(first.contents, later)
 }
 
 // What an audio packet of so many streams is made of. 13: the number of streams is not from 1 to 255. 15: not 13, and one of
 // its Opus packets is illegal. 16: neither, and they differ in length.
-// Example: `read_packet(&[0xfc], 1)` gives `PacketRead::Legal` with 960 samples, 1 frame, stereo and silent both true: one empty
-// frame of 20 ms.
-pub fn read_packet(bytes: &[u8], streams: u64) -> PacketRead
-    ensures { told_packet result ≡ read_packet bytes.now streams }
+// Example: `read_packet(&[0xfc], 1)` gives `Ok` with 960 samples, 1 frame, stereo and silent both true: one empty frame of 20 ms.
+pub fn read_packet(bytes: &[u8], streams: u64) -> Result<Contents, Refusal>
+    ensures { told result ≡ read_packet bytes.now streams }
 {
     if streams == 0 {
-        return PacketRead::Refused(Refusal::BadMapping);
+        return Err(Refusal::BadMapping);
     }
-    if streams > 255 {
-        return PacketRead::Refused(Refusal::BadMapping);
+    let many = streams > 255;
+    if many {
+        return Err(Refusal::BadMapping);
     }
-    let lengths = read_streams(bytes, streams);
-    match lengths {
-        Lengths::Broken => PacketRead::Refused(Refusal::IllegalPacket),
-        Lengths::Mixed => PacketRead::Refused(Refusal::MixedLengths),
-        Lengths::Same(first) => PacketRead::Legal(first),
-    }
+    read_streams(bytes, streams)
 }
 
 // Whether the bytes are a packet of one frame that has no length coded, by its first byte and its length (RULES.md, 6): nearly
@@ -140,14 +111,14 @@ pub fn is_single(bytes: &[u8]) -> bool
 }
 
 // The same as `read_packet` (RULES.md, 6). A legal packet of one stream with the code 0 is answered at once, in so little
-// code that it can be in its caller's loop. Example: `read_packet_quick(&[0xf8, 0xaa], 1)` gives `PacketRead::Legal` with 960
-// samples and 1 frame, stereo and silent both false.
-pub fn read_packet_quick(bytes: &[u8], streams: u64) -> PacketRead
-    ensures { told_packet result ≡ read_packet bytes.now streams }
+// code that it can be in its caller's loop. Example: `read_packet_quick(&[0xf8, 0xaa], 1)` gives `Ok` with 960 samples and
+// 1 frame, stereo and silent both false.
+pub fn read_packet_quick(bytes: &[u8], streams: u64) -> Result<Contents, Refusal>
+    ensures { told result ≡ read_packet bytes.now streams }
 {
     if streams == 1 {
         if is_single(bytes) {
-            return PacketRead::Legal(made_of(octets::byte_at(bytes, 0), 1, bytes.len() == 1));
+            return Ok(made_of(octets::byte_at(bytes, 0), 1, bytes.len() == 1));
         }
     }
     read_packet(bytes, streams)

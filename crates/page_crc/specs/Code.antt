@@ -1,5 +1,5 @@
 -- What the private functions need and tell. Assumes nothing.
-use Rattle.std.specs.Prelude.{ℕ, ◌+◌, ◌/◌, ◌^◌, ◌<◌, ◌≡◌, get_or}
+use Rattle.std.specs.Prelude.{ℕ, ◌+◌, ◌-◌, ◌/◌, ◌^◌, ◌<◌, ◌≡◌, get_or}
 use Rattle.std.specs.Int.Bits.{bit_xor}
 use Rattle.octets.specs.Octets.{Bytes}
 use Rattle.page_crc.specs.Sliced.{moved}
@@ -13,3 +13,7 @@ pub record Meets (x : ℕ) (s : Bytes) (at k b : ℕ) : Type 0 where
 pub record HasEntry (j b : ℕ) : Type 0 where
   pub table : j < 16
   pub byte : b < 256
+
+-- v is what the byte of s adds that j of the m bytes from `at` on follow, by the entries e
+abbrev pub Adds : (ℕ → ℕ → ℕ) → ℕ → Bytes → ℕ → ℕ → ℕ → ℕ → Type 0
+Adds e x s at m j v = v ≡ e j (bit_xor (moved x (m - 1 - j) / 2 ^ 24) (get_or s (at + (m - 1 - j)) 0))

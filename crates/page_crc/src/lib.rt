@@ -1,15 +1,14 @@
 // The checksum of an Ogg page (RFC 3533): polynomial 0x04c11db7, high bit first, start 0, no final change.
 // Defined bit by bit in specs/Crc.antt; computed here sixteen bytes a turn, by sixteen tables (specs/Sliced.antt).
-// The functions whose names end in `_with` take the tables from the caller, who makes them once by
-// `page_crc_tables::table::tables`. The others make them at each call. For short inputs they make tables of half bytes, which
-// take longer to use but less to store.
+// `page_checksum_with` takes the tables from the caller, who makes them once by `page_crc_tables::table::tables`. The others
+// make them at each call. For short inputs they make tables of half bytes, which take longer to use but less to store.
 #![tactic(auto)]
 
-ghost use Rattle.std.specs.Prelude.{◌≡◌, ◌+◌, ◌≤◌, ◌<◌, length, take, drop};
-ghost use Rattle.page_crc_tables.specs.Table.{entry_in, half_entry_in};
+ghost use Rattle.std.specs.Prelude.{◌≡◌, ℕ, ◌+◌, ◌≤◌, ◌<◌, length, take, drop};
+ghost use Rattle.page_crc_tables.specs.Table.{Right, entry_in, half_entry_in};
 ghost use Rattle.page_crc.specs.Crc.{checksum_end, crc, page_crc};
 ghost use Rattle.page_crc.specs.Sliced.{moved, block_of, sliced, head_sliced, page_sliced};
-ghost use Rattle.page_crc.specs.Code.{Meets, HasEntry};
+ghost use Rattle.page_crc.specs.Code.{Meets, HasEntry, Adds};
 
 use page_layout::CHECKSUM_AT;
 
@@ -41,62 +40,81 @@ fn met(x: u32, s: &[u8], at: usize, k: usize) -> usize
     b as usize
 }
 
-fn entry(tables: &[u32; 4096], j: usize, b: usize) -> u32
-    requires { HasEntry j b }
-    ensures { result ≡ entry_in tables.now j b }
-{
-    tables[j * 256 + b]
+// Sixteen tables, of bytes or of half bytes.
+trait Tables: Drop {
+    // the entries that `entry` gives
+    ghost entries: { Self → ℕ → ℕ → ℕ };
+
+    // The right tables. Tables are stored at the start of the function that makes them.
+    fn right() -> Self
+        ensures { Right (entries result) };
+
+    // What a byte b in the register's top adds, with j bytes of its block after it.
+    fn entry(&self, j: usize, b: usize) -> u32
+        requires { HasEntry j b }
+        ensures { result ≡ entries self.now j b };
 }
 
-fn half_entry(halves: &[u32; 512], j: usize, b: usize) -> u32
-    requires { HasEntry j b }
-    ensures { result ≡ half_entry_in halves.now j b }
+impl Tables for [u32; 4096] {
+    ghost entries = { entry_in };
+
+    fn right() -> [u32; 4096] {
+        page_crc_tables::table::tables()
+    }
+
+    fn entry(&self, j: usize, b: usize) -> u32 {
+        self[j * 256 + b]
+    }
+}
+
+impl Tables for [u32; 512] {
+    ghost entries = { half_entry_in };
+
+    fn right() -> [u32; 512] {
+        page_crc_tables::halves::halves()
+    }
+
+    fn entry(&self, j: usize, b: usize) -> u32 {
+        self[j * 32 + b / 16] ^ self[j * 32 + 16 + b % 16]
+    }
+}
+
+// What the byte adds to the register x after m bytes of s from `at` on, where j of them follow it.
+fn added<T: Tables>(tables: &T, x: u32, s: &[u8], at: usize, m: usize, j: usize) -> u32
+    requires j_bound { j < m }
+    requires m_bound { m ≤ 16 }
+    requires m_in_bounds { at + m ≤ length s.now }
+    ensures { Adds (T.entries tables.now) x s.now at m j result }
 {
-    halves[j * 32 + b / 16] ^ halves[j * 32 + 16 + b % 16]
+    let k = m - 1 - j;
+    let b = met(x, s, at, k);
+    tables.entry(j, b)
 }
 
 // The register x after m bytes of s from `at` on: for each byte the entry for the j bytes that follow it. At a number m
-// the compiler unrolls the loop and computes every k. The loop goes from the last byte to the first, so that only its
-// last four turns wait for x.
-fn block(tables: &[u32; 4096], x: u32, s: &[u8], at: usize, m: usize) -> u32
+// the compiler unrolls the loops and computes every k; it unrolls eight turns by half bytes, but not sixteen: hence two
+// loops. They go from the last byte to the first, so that only the last four turns wait for x.
+fn block<T: Tables>(tables: &T, x: u32, s: &[u8], at: usize, m: usize) -> u32
     requires m_bound { m ≤ 16 }
     requires m_in_bounds { at + m ≤ length s.now }
-    ensures { result ≡ block_of (entry_in tables.now) x (take m (drop at s.now)) }
+    ensures { result ≡ block_of (T.entries tables.now) x (take m (drop at s.now)) }
 {
     let mut y = shifted(x, m);
-    for j in 0..m {
-        let k = m - 1 - j;
-        let b = met(x, s, at, k);
-        y = y ^ entry(tables, j, b);
-    }
-    y
-}
-
-// The same by half bytes. A turn is longer here, and the compiler unrolls eight of them but not sixteen: hence two loops.
-fn half_block(halves: &[u32; 512], x: u32, s: &[u8], at: usize, m: usize) -> u32
-    requires m_bound { m ≤ 16 }
-    requires m_in_bounds { at + m ≤ length s.now }
-    ensures { result ≡ block_of (half_entry_in halves.now) x (take m (drop at s.now)) }
-{
-    let mut y = shifted(x, m);
-    let n = octets::least(m, 8);
+    let n = m.min(8);
     for j in 0..n {
-        let k = m - 1 - j;
-        let b = met(x, s, at, k);
-        y = y ^ half_entry(halves, j, b);
+        y ^= added(tables, x, s, at, m, j);
     }
     for j in n..m {
-        let k = m - 1 - j;
-        let b = met(x, s, at, k);
-        y = y ^ half_entry(halves, j, b);
+        y ^= added(tables, x, s, at, m, j);
     }
     y
 }
 
 // The register r after the bytes of s: sixteen at a time, then eight, four, two, one.
-fn update(tables: &[u32; 4096], r: u32, s: &[u8]) -> u32
-    ensures { result ≡ sliced (entry_in tables.now) r s.now }
+fn update<T: Tables>(tables: &T, r: u32, s: &[u8]) -> u32
+    ensures { result ≡ sliced (T.entries tables.now) r s.now }
 {
+    // stays: a turn goes on by a block, whose size is written out so that the compiler unrolls its loops
     let mut x = r;
     let mut i = 0;
     while i < s.len() {
@@ -121,47 +139,12 @@ fn update(tables: &[u32; 4096], r: u32, s: &[u8]) -> u32
     x
 }
 
-// The same by half bytes.
-fn half_update(halves: &[u32; 512], r: u32, s: &[u8]) -> u32
-    ensures { result ≡ sliced (half_entry_in halves.now) r s.now }
+// The register r after the bytes of s, by tables that are made here.
+fn checksum_from<T: Tables>(r: u32, s: &[u8]) -> u32
+    ensures { result ≡ crc r s.now }
 {
-    let mut x = r;
-    let mut i = 0;
-    while i < s.len() {
-        let left = s.len() - i;
-        if left >= 16 {
-            x = half_block(halves, x, s, i, 16);
-            i += 16;
-        } else if left >= 8 {
-            x = half_block(halves, x, s, i, 8);
-            i += 8;
-        } else if left >= 4 {
-            x = half_block(halves, x, s, i, 4);
-            i += 4;
-        } else if left >= 2 {
-            x = half_block(halves, x, s, i, 2);
-            i += 2;
-        } else {
-            x = half_block(halves, x, s, i, 1);
-            i += 1;
-        }
-    }
-    x
-}
-
-// Tables are stored at the start of the function that makes them, so each kind has a function of its own.
-fn long_checksum(s: &[u8]) -> u32
-    ensures { result ≡ crc 0 s.now }
-{
-    let tables = page_crc_tables::table::tables();
-    update(&tables, 0, s)
-}
-
-fn short_checksum(s: &[u8]) -> u32
-    ensures { result ≡ crc 0 s.now }
-{
-    let halves = page_crc_tables::halves::halves();
-    half_update(&halves, 0, s)
+    let tables = T::right();
+    update(&tables, r, s)
 }
 
 // The checksum of the bytes as they are (RULES.md, 3; RFC 3533, 6). It refuses nothing.
@@ -170,9 +153,9 @@ pub fn checksum(s: &[u8]) -> u32
     ensures { result ≡ crc 0 s.now }
 {
     if s.len() <= SHORT {
-        short_checksum(s)
+        checksum_from::<[u32; 512]>(0, s)
     } else {
-        long_checksum(s)
+        checksum_from::<[u32; 4096]>(0, s)
     }
 }
 
@@ -203,8 +186,8 @@ pub fn page_checksum_with(tables: &[u32; 4096], page: &[u8]) -> u32
         return update(tables, head, &page[CHECKSUM_END..]);
     }
     let zeros = [0u8; 4];
-    let a = octets::least(CHECKSUM_AT, page.len());
-    let b = octets::least(CHECKSUM_END, page.len());
+    let a = CHECKSUM_AT.min(page.len());
+    let b = CHECKSUM_END.min(page.len());
     let head = update(tables, 0, &page[..a]);
     let field = update(tables, head, &zeros[..b - a]);
     update(tables, field, &page[b..])
@@ -213,20 +196,22 @@ pub fn page_checksum_with(tables: &[u32; 4096], page: &[u8]) -> u32
 fn long_page_checksum(page: &[u8]) -> u32
     ensures { result ≡ page_crc page.now }
 {
-    let tables = page_crc_tables::table::tables();
+    let tables = <[u32; 4096]>::right();
     page_checksum_with(&tables, page)
 }
 
+// stays: `page_checksum_with` ends in the same three runs, but with one function for both the compiler stores the tables so
+// that a page of 28 bytes takes a sixth longer, by measurement
 fn short_page_checksum(page: &[u8]) -> u32
     ensures { result ≡ page_crc page.now }
 {
-    let halves = page_crc_tables::halves::halves();
+    let halves = <[u32; 512]>::right();
     let zeros = [0u8; 4];
-    let a = octets::least(CHECKSUM_AT, page.len());
-    let b = octets::least(CHECKSUM_END, page.len());
-    let head = half_update(&halves, 0, &page[..a]);
-    let field = half_update(&halves, head, &zeros[..b - a]);
-    half_update(&halves, field, &page[b..])
+    let a = CHECKSUM_AT.min(page.len());
+    let b = CHECKSUM_END.min(page.len());
+    let head = update(&halves, 0, &page[..a]);
+    let field = update(&halves, head, &zeros[..b - a]);
+    update(&halves, field, &page[b..])
 }
 
 // The same as `page_checksum_with`, by right tables that are made here (RULES.md, 3; RFC 3533, 6).

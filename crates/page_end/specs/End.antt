@@ -4,8 +4,6 @@ use Rattle.std.proofs.Math.Option.{Option, none, some}
 use Rattle.octets.specs.Pick.{pick}
 use Rattle.octets.specs.Octets.{Bytes}
 use Rattle.page_size.specs.Extent.{Reach, ends_at, unknown, no_start, page_extent}
-use Rattle.page_end.specs.declared.End.{End}
-use Rattle.page_end.specs.declared.End.TheVariants.{At, Cut}
 
 -- none: it is not whole in the buffer, of n bytes; bytes that begin no page are taken as they are, to the buffer's end
 abbrev pub end_in : Reach → ℕ → Option ℕ
@@ -15,8 +13,3 @@ end_in no_start n = some n
 
 unfoldable pub end_at : Bytes → ℕ → Option ℕ
 end_at b at = end_in (page_extent b at) (length b)
-
--- what the code's answer tells
-abbrev pub found_end : End → Option ℕ
-found_end (At e) = some e
-found_end Cut = none

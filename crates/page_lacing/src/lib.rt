@@ -10,11 +10,8 @@ pub fn sum_of(lacing: &[u8]) -> usize
     ensures { Summed lacing.now result }
 {
     let mut n: usize = 0;
-    let end = octets::least(lacing.len(), 255);
-    let mut i = 0;
-    while i < end {
-        n += octets::wide(lacing[i]);
-        i += 1;
+    for v in octets::part_of(lacing, 0, 255) {
+        n += usize::from(*v);
     }
     n
 }
@@ -25,8 +22,6 @@ pub fn sum_of(lacing: &[u8]) -> usize
 pub fn is_body(lacing: &[u8], body: &[u8]) -> bool
     ensures { result ≡ is_body lacing.now body.now }
 {
-    if lacing.len() > 255 {
-        return false;
-    }
-    sum_of(lacing) == body.len()
+    let few = lacing.len() <= 255;
+    few && sum_of(lacing) == body.len()
 }

@@ -20,10 +20,8 @@ pub fn pieces_of(lacing: &[u8]) -> Pieces
     let mut lengths = [0usize; 255];
     let mut count: usize = 0;
     let mut bytes: usize = 0;
-    let end = octets::least(lacing.len(), 255);
-    let mut i = 0;
-    while i < end {
-        let v = octets::wide(lacing[i]);
+    for b in octets::part_of(lacing, 0, 255) {
+        let v = usize::from(*b);
         bytes += v;
         let ends = v < 255;
         if ends {
@@ -31,7 +29,6 @@ pub fn pieces_of(lacing: &[u8]) -> Pieces
             count += 1;
             bytes = 0;
         }
-        i += 1;
     }
     Pieces {
         count,

@@ -9,8 +9,6 @@ use Rattle.refusal.specs.Numbers.{number_of}
 use Rattle.page_layout.specs.declared.PageHeader.{PageHeader}
 use Rattle.page_layout.specs.Page.{header_of, checksum_of}
 use Rattle.page_size.specs.Size.{is_one_page}
-use Rattle.page_reader.specs.declared.PageRead.{PageRead}
-use Rattle.page_reader.specs.declared.PageRead.TheVariants.{Page, Refused}
 
 abbrev pub read_checks : (Bytes → ℕ) → Bytes → List Check
 read_checks crc b = NotOnePage when not (is_one_page b) ∷ WrongChecksum when not (eqb (crc b) (checksum_of b)) ∷ []
@@ -18,8 +16,3 @@ read_checks crc b = NotOnePage when not (is_one_page b) ∷ WrongChecksum when n
 -- the fields before the lacing values, or a refusal; the lacing values and the body are `lacing_of b` and `body_of b`
 unfoldable pub read_page : (Bytes → ℕ) → Bytes → Told PageHeader
 read_page crc b = decided (first_of (read_checks crc b)) (header_of b)
-
--- what the code's answer tells
-abbrev pub told_read : PageRead → Told PageHeader
-told_read (Page h) = gives h
-told_read (Refused r) = refuses (number_of r)

@@ -30,7 +30,8 @@ fn extent_in(s: &[u8], at: usize) -> Extent
     requires { at < 2 ^ 63 }
     ensures { told_extent result ≡ extent_in s.now at }
 {
-    if s.len() < LACING_AT {
+    let short = s.len() < LACING_AT;
+    if short {
         return Extent::Short;
     }
     if !page_layout::has_capture(s) {

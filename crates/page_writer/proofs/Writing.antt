@@ -1,4 +1,5 @@
 -- The ways of writing a page, by its tests, and what the copies make of the output. Assumes nothing.
+use Rattle.std.specs.Prelude.{Result, Ok, Err}
 use mathlib.Core.Path.{◌≡◌, refl, sym, ap, ◌∙◌}
 use mathlib.Core.Bool.{Bool, true, false, not}
 use mathlib.Core.List.{[], ◌∷◌, ◌++◌}
@@ -19,8 +20,6 @@ use Rattle.page_crc.specs.Crc.{page_crc}
 use Rattle.page_lacing.specs.Lacing.{is_body}
 use Rattle.page_layout.specs.declared.PageHeader.{PageHeader}
 use Rattle.page_layout.specs.Places.{checksum_at, lacing_at}
-use Rattle.page_writer.specs.declared.PageWritten.{PageWritten}
-use Rattle.page_writer.specs.declared.PageWritten.TheVariants.{Bytes as Written, Refused}
 use Rattle.page_writer.specs.Writing.{with_checksum, start_of, page_bytes, page_size, any_checks, write_checks, write_told, write_out, write_any_told, write_any_out, Wrote, WroteAny}
 
 -- ---- any flags
@@ -39,11 +38,11 @@ module _ (l b : Bytes) (n : ℕ) where
   any_writable e r = rw (e, le-ltb n (page_size l b) r)
 
 module _ (h : PageHeader) (l b out : Bytes) where
-  pub refused : (w : Refusal) → first_of (any_checks l b (length out)) ≡ some w → WroteAny h l b out (Refused w) out
+  pub refused : (w : Refusal) → first_of (any_checks l b (length out)) ≡ some w → WroteAny h l b out (Err w) out
   unfolding write_any_told write_any_out
   refused w e = record { told = rw e; output = rw e }
 
-  pub wrote : first_of (any_checks l b (length out)) ≡ none → WroteAny h l b out (Written (page_size l b)) (copied out 0 (page_bytes h l b))
+  pub wrote : first_of (any_checks l b (length out)) ≡ none → WroteAny h l b out (Ok (page_size l b)) (copied out 0 (page_bytes h l b))
   unfolding write_any_told write_any_out
   wrote e = record { told = rw e; output = rw e }
 
@@ -70,11 +69,11 @@ module _ (h : PageHeader) (l b : Bytes) where
     writable e f r = low-flags f ∙ any_writable l b n e r
 
   module _ (out : Bytes) where
-    pub flags-refused : 7 < h.flags → Wrote h l b out (Refused UnfitFields) out
+    pub flags-refused : 7 < h.flags → Wrote h l b out (Err UnfitFields) out
     unfolding write_told write_out
     flags-refused f = record { told = rw (wrong-flags (length out) f); output = rw (wrong-flags (length out) f) }
 
-    pub flags_taken : (r : PageWritten) (end : Bytes) → h.flags ≤ 7 → WroteAny h l b out r end → Wrote h l b out r end
+    pub flags_taken : (r : Result ℕ Refusal) (end : Bytes) → h.flags ≤ 7 → WroteAny h l b out r end → Wrote h l b out r end
     unfolding write_told write_out write_any_told write_any_out
     flags_taken r end f w = record { told = w.told ∙ rw (low-flags (length out) f); output = w.output ∙ rw (low-flags (length out) f) }
 

@@ -1,19 +1,17 @@
 -- Writing a page (RULES.md, 3, refusals 23 and 22; RFC 3533, 6), and a page's checksum computed again. Assumes nothing.
-use Rattle.std.specs.Prelude.{ℕ, ◌+◌, ◌≡◌, not, List, [], ◌∷◌, ◌++◌, ltb, length}
+use Rattle.refusal.specs.Told.{told, Told, gives, refuses, decided}
+use Rattle.std.specs.Prelude.{Result, Ok, Err, ℕ, ◌+◌, ◌≡◌, not, List, [], ◌∷◌, ◌++◌, ltb, length}
 use Rattle.std.proofs.Math.Option.{Option, none, some}
 use Rattle.octets.specs.Octets.{Bytes, copied}
 use Rattle.octets.specs.Numbers.{octets}
 use Rattle.refusal.specs.declared.Refusal.{Refusal}
 use Rattle.refusal.specs.declared.Refusal.TheVariants.{ShortOutput, UnfitFields}
 use Rattle.refusal.specs.Checks.{Check, ◌when◌, first_of}
-use Rattle.refusal.specs.Told.{Told, gives, refuses, decided}
 use Rattle.refusal.specs.Numbers.{number_of}
 use Rattle.page_crc.specs.Crc.{page_crc}
 use Rattle.page_lacing.specs.Lacing.{is_body}
 use Rattle.page_layout.specs.declared.PageHeader.{PageHeader}
 use Rattle.page_layout.specs.Places.{capture_pattern, checksum_at, lacing_at}
-use Rattle.page_writer.specs.declared.PageWritten.{PageWritten}
-use Rattle.page_writer.specs.declared.PageWritten.TheVariants.{Bytes as Written, Refused}
 
 -- the page's own checksum put into its field; bytes that end before the field's end stay
 unfoldable pub with_checksum : Bytes → Bytes
@@ -63,17 +61,12 @@ write_any_told lacing body out = decided (first_of (any_checks lacing body (leng
 unfoldable pub write_any_out : PageHeader → Bytes → Bytes → Bytes → Bytes
 write_any_out h lacing body out = written (first_of (any_checks lacing body (length out))) out (page_bytes h lacing body)
 
--- what the code's answer tells
-abbrev pub told_written : PageWritten → Told ℕ
-told_written (Written n) = gives n
-told_written (Refused r) = refuses (number_of r)
-
 -- the answer r, and the output from `out` at entry to `end` at exit
-pub record Wrote (h : PageHeader) (lacing body out : Bytes) (r : PageWritten) (end : Bytes) : Type 0 where
-  pub told : told_written r ≡ write_told h lacing body out
+pub record Wrote (h : PageHeader) (lacing body out : Bytes) (r : Result ℕ Refusal) (end : Bytes) : Type 0 where
+  pub told : told r ≡ write_told h lacing body out
   pub output : end ≡ write_out h lacing body out
 
 -- the same for any flags
-pub record WroteAny (h : PageHeader) (lacing body out : Bytes) (r : PageWritten) (end : Bytes) : Type 0 where
-  pub told : told_written r ≡ write_any_told lacing body out
+pub record WroteAny (h : PageHeader) (lacing body out : Bytes) (r : Result ℕ Refusal) (end : Bytes) : Type 0 where
+  pub told : told r ≡ write_any_told lacing body out
   pub output : end ≡ write_any_out h lacing body out

@@ -8,14 +8,6 @@ ghost use Rattle.page_writer.specs.Writing.{with_checksum, start_of, page_bytes,
 use page_layout::{CAPTURE, CHECKSUM_AT, LACING_AT, PageHeader};
 use refusal::Refusal;
 
-#[derive(Clone, Copy)]
-pub enum PageWritten {
-    // how many bytes were written
-    Bytes(usize),
-    // 23 or 22
-    Refused(Refusal),
-}
-
 // Puts the page's checksum into its field (RULES.md, 3; RFC 3533, 6). It refuses nothing: bytes that end before the field's
 // end stay as they are. Example: "OggS" and 23 zero bytes get the bytes 11 a5 a1 9e, in hexadecimal, at places 22 to 25.
 pub fn renew_checksum(page: &mut [u8])
@@ -57,29 +49,40 @@ fn put_page(h: PageHeader, lacing: &[u8], body: &[u8], out: &mut [u8])
 // The page of these fields, lacing values and body, written to the start of `out`, for any flags (RULES.md, 3 and 16; RFC 3533,
 // 6). 23: more than 255 values, or values that do not sum to the body's length. 22: not 23, and `out` is shorter than the page.
 // On refusal nothing is written.
-// Example: `write_any_page(h, &[3], b"abc", &mut out)` gives `PageWritten::Bytes(31)` also where the flags are 8, if `out` has
+// Example: `write_any_page(h, &[3], b"abc", &mut out)` gives `Ok(31)` also where the flags are 8, if `out` has
 // 31 bytes.
-pub fn write_any_page(h: PageHeader, lacing: &[u8], body: &[u8], out: &mut [u8]) -> PageWritten
+pub fn write_any_page(
+    h: PageHeader,
+    lacing: &[u8],
+    body: &[u8],
+    out: &mut [u8],
+) -> Result<usize, Refusal>
     ensures { WroteAny h lacing.now body.now out.old result out.new }
 {
     if !page_lacing::is_body(lacing, body) {
-        return PageWritten::Refused(Refusal::UnfitFields);
+        return Err(Refusal::UnfitFields);
     }
     let size = LACING_AT + lacing.len() + body.len();
     if out.len() < size {
-        return PageWritten::Refused(Refusal::ShortOutput);
+        return Err(Refusal::ShortOutput);
     }
     put_page(h, lacing, body, out);
-    PageWritten::Bytes(size)
+    Ok(size)
 }
 
 // The same for flags of at most 7, the marks that a page can have: any others are refused by 23.
-// Example: `write_page(h, &[3], b"abc", &mut out)` gives `PageWritten::Bytes(31)`, where the flags and `out` allow it.
-pub fn write_page(h: PageHeader, lacing: &[u8], body: &[u8], out: &mut [u8]) -> PageWritten
+// Example: `write_page(h, &[3], b"abc", &mut out)` gives `Ok(31)`, where the flags and `out` allow it.
+pub fn write_page(
+    h: PageHeader,
+    lacing: &[u8],
+    body: &[u8],
+    out: &mut [u8],
+) -> Result<usize, Refusal>
     ensures { Wrote h lacing.now body.now out.old result out.new }
 {
-    if h.flags > 7 {
-        return PageWritten::Refused(Refusal::UnfitFields);
+    let unknown = h.flags > 7;
+    if unknown {
+        return Err(Refusal::UnfitFields);
     }
     write_any_page(h, lacing, body, out)
 }

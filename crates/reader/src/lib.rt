@@ -14,7 +14,6 @@ ghost use Rattle.feed_numbers.specs.Numbers.{reader_from, StandFor};
 ghost use Rattle.reader.specs.Answers.{known_as, told_opened, told_fed, totals_of};
 ghost use Rattle.reader.specs.Numbers.{StateOpenedIs, StateFedIs, StateFeeds};
 
-use feed_start::CoreOpened;
 use granule::Position;
 use head_fields::Head;
 use refusal::Refusal;
@@ -36,20 +35,11 @@ pub struct SampleTotals {
     pub hole: u64,
 }
 
+// The next reader, and the page's own record.
 #[derive(Clone, Copy)]
-pub enum Opened {
-    // a reader that waits for an audio page
-    At(Reader),
-    // 23
-    Refused(Refusal),
-}
-
-#[derive(Clone, Copy)]
-pub enum Fed {
-    // the next reader, and the page's own record
-    Accepted(Reader, Counts),
-    // 1 to 19
-    Refused(Refusal),
+pub struct Fed {
+    pub reader: Reader,
+    pub counts: Counts,
 }
 
 // ---- readers
@@ -67,14 +57,15 @@ pub fn start() -> Reader
 
 // A reader that waits for any audio page of a stream with this header. It skips no samples. 23: no reading gives these
 // fields, by `head_fields::right_head` (RULES.md, 9).
-// Example: right fields give `Opened::At(reader)`, and `position(reader)` is `Position::Joined`.
-pub fn open(head: Head) -> Opened
+// Example: right fields give `Ok(reader)`, and `position(reader)` is `Position::Joined`.
+pub fn open(head: Head) -> Result<Reader, Refusal>
     ensures { told_opened result ≡ open_part_way head }
 {
-    match feed_start::open_core(head) {
-        CoreOpened::At(core, tally) => Opened::At(Reader { core, tally }),
-        CoreOpened::Refused(why) => Opened::Refused(why),
-    }
+    let opened = feed_start::open_core(head)?;
+    Ok(Reader {
+        core: opened.core,
+        tally: opened.tally,
+    })
 }
 
 // The serial of the last page accepted, 0 before the first (RULES.md, 3). It refuses nothing.
@@ -141,13 +132,17 @@ pub fn held(reader: Reader) -> usize
 // ---- feeding
 
 // The same answer with the core and the tally as a reader.
-fn fed_of(fed: PageFed) -> Fed
+fn fed_of(fed: Result<PageFed, Refusal>) -> Result<Fed, Refusal>
     ensures { told_fed result ≡ told_page fed }
 {
-    match fed {
-        PageFed::Accepted(core, tally, counts) => Fed::Accepted(Reader { core, tally }, counts),
-        PageFed::Refused(why) => Fed::Refused(why),
-    }
+    let page = fed?;
+    Ok(Fed {
+        reader: Reader {
+            core: page.core,
+            tally: page.tally,
+        },
+        counts: page.counts,
+    })
 }
 
 // Feeds one page to a reader: the next reader and the page's own record, or a refusal of 1 to 19. The lowest number that
@@ -156,7 +151,7 @@ fn fed_of(fed: PageFed) -> Fed
 // The carry buffer has to hold, up to the held count, what the last feeding left there. Of an accepted page the lists show,
 // from place 0 on, the end stamp, the length, the kept count and the frames of each packet. A refusal leaves the lists as they
 // were. One of 12 to 19 may leave the page's first piece in the carry buffer, after the held bytes.
-// Example: a right first page fed to `start()` gives `Fed::Accepted(next, counts)`, and the second page is fed to `next`.
+// Example: a right first page fed to `start()` gives `Ok(Fed { reader: next, counts })`, and the second page is fed to `next`.
 pub fn feed(
     reader: Reader,
     page: &[u8],
@@ -165,7 +160,7 @@ pub fn feed(
     lengths: &mut [u64],
     kept: &mut [u64],
     frames: &mut [u64],
-) -> Fed
+) -> Result<Fed, Refusal>
     ensures { Feeds (readings page_crc) (known_as reader) page.now
         (at_entry carry ends lengths kept frames) (told_fed result) (at_exit carry ends lengths kept frames) }
 {
@@ -193,7 +188,7 @@ pub fn feed_with(
     lengths: &mut [u64],
     kept: &mut [u64],
     frames: &mut [u64],
-) -> Fed
+) -> Result<Fed, Refusal>
     ensures { Feeds (readings (page_sliced (entry_in tables.now))) (known_as reader) page.now
         (at_entry carry ends lengths kept frames) (told_fed result) (at_exit carry ends lengths kept frames) }
 {
@@ -211,22 +206,6 @@ pub fn feed_with(
 }
 
 // ---- a reader as sixteen numbers
-
-#[derive(Clone, Copy)]
-pub enum StateOpened {
-    // the numbers are those of the reader
-    Done,
-    // 23
-    Refused(Refusal),
-}
-
-#[derive(Clone, Copy)]
-pub enum StateFed {
-    // the page's own record; the numbers are those of the next reader
-    Accepted(Counts),
-    // 1 to 19
-    Refused(Refusal),
-}
 
 // The reader that the numbers represent (RULES.md, 14). It refuses nothing.
 // Example: of sixteen zeros it is the reader of `start()`, and with 9 in place 0 it is one that has ended.
@@ -256,30 +235,22 @@ pub fn start_state() -> [u64; 16]
 
 // The same as `open`, into sixteen numbers (RULES.md, 14). A refusal, of 23, changes none.
 // Example: right fields with 1 stream and pre-skip 312 leave 3, 0, 0, 1, 0, 0, 0, 1, 312 and seven zeros.
-pub fn open_state(head: Head, state: &mut [u64; 16]) -> StateOpened
+pub fn open_state(head: Head, state: &mut [u64; 16]) -> Result<(), Refusal>
     ensures { StateOpenedIs (open_part_way head) result state.old state.new }
 {
-    match feed_start::open_core(head) {
-        CoreOpened::At(core, tally) => {
-            *state = feed_numbers::numbers_of(core, tally);
-            StateOpened::Done
-        }
-        CoreOpened::Refused(why) => StateOpened::Refused(why),
-    }
+    let opened = feed_start::open_core(head)?;
+    *state = feed_numbers::numbers_of(opened.core, opened.tally);
+    Ok(())
 }
 
 // The numbers of the next reader; a refusal changes none.
-fn keep(fed: PageFed, state: &mut [u64; 16]) -> StateFed
+fn keep(fed: Result<PageFed, Refusal>, state: &mut [u64; 16]) -> Result<Counts, Refusal>
     ensures { (f : Outcome) (after : Lent) →
         FedIs f (told_page fed) after → StateFedIs f result state.old state.new after }
 {
-    match fed {
-        PageFed::Accepted(core, tally, counts) => {
-            *state = feed_numbers::numbers_of(core, tally);
-            StateFed::Accepted(counts)
-        }
-        PageFed::Refused(why) => StateFed::Refused(why),
-    }
+    let page = fed?;
+    *state = feed_numbers::numbers_of(page.core, page.tally);
+    Ok(page.counts)
 }
 
 // The same as `feed` with a reader in sixteen numbers (RULES.md, 14). An accepted page leaves those of the next reader; a
@@ -292,7 +263,7 @@ pub fn feed_state(
     lengths: &mut [u64],
     kept: &mut [u64],
     frames: &mut [u64],
-) -> StateFed
+) -> Result<Counts, Refusal>
     ensures { StateFeeds (readings page_crc) state.old page.now (at_entry carry ends lengths kept frames)
         result state.new (at_exit carry ends lengths kept frames) }
 {

@@ -1,4 +1,5 @@
 -- A step of judging: one run of pages, and what it leads to. Assumes nothing.
+use Rattle.std.specs.Prelude.{Result, Ok, Err}
 use Prim.Native.Nat.{ℕ, suc, ◌+◌, ◌-◌, ◌<◌}
 use mathlib.Core.Path.{◌≡◌, refl, sym, ap, ap₂, subst, ◌∙◌}
 use mathlib.Core.Bool.{false}
@@ -20,13 +21,14 @@ use Rattle.feed_pages.specs.declared.PagesFed.{PagesFed}
 use Rattle.feed_pages.specs.Run.{is_full, Ended, started, feed_pages}
 use Rattle.feed_pages.specs.Answers.{reached, told_stop, told_run}
 use Rattle.recording.specs.declared.Accepted.{Accepted}
-use Rattle.recording.specs.declared.Judged.{Judged}
-use Rattle.recording.specs.declared.Step.{Step}
-use Rattle.recording.specs.declared.Step.TheVariants.{Goes, Ends}
+use Rattle.recording.specs.declared.Whole.{Whole}
+use Rattle.recording.specs.declared.RefusedAt.{RefusedAt}
+use Rattle.std.specs.declared.ops.ControlFlow.{ControlFlow}
+use Rattle.std.specs.declared.ops.ControlFlow.TheVariants.{Continue, Break}
 use Rattle.recording.specs.Pages.{pages_of}
 use Rattle.recording.specs.Judging.{judge_buffer}
 use Rattle.recording.specs.Code.{judge_from}
-use Rattle.recording.specs.Answers.{told_judged, at_end, judge_after, Next, goes, next_as, with_run, next_by, next_of, SumsFit, judge_next, Within, Ready, Onward, StepIs}
+use Rattle.recording.specs.Answers.{told_judged, at_end, judge_after, Step, Next, goes, next_as, with_run, next_by, next_of, SumsFit, judge_next, Within, Ready, Onward, StepIs}
 use Rattle.recording.proofs.Judging.{from-fresh}
 use Rattle.recording.proofs.Runs.{at_cut, left, stopped, Judges, run_judges}
 
@@ -105,13 +107,13 @@ module _ (crc : Bytes → ℕ) (b : Bytes) (a : Accepted) (m end : Lent) (f : Pa
 -- ---- the steps one after the other
 
 module _ (R : Readings) (b : Bytes) (a : Accepted) (old new : Bytes) {r : Step} (is : StepIs R b a old new r) where
-  pub step_on : {d : Accepted} → r ≡ Goes d → (judge_after R b d new ≡ judge_after R b a old) × (a.bytes < d.bytes) × Within b d
+  pub step_on : {d : Accepted} → r ≡ Continue d → (judge_after R b d new ≡ judge_after R b a old) × (a.bytes < d.bytes) × Within b d
   step_on {d} e =
       let n : next_as r ≡ goes d = ap next_as e in
       let o : Onward b a (goes d) = subst (Onward b a) n is.onward in
       (sym (ap (λ (x : Next). judge_next R b x new) n) ∙ is.same, o.0, o.1)
 
-  pub step_ends : {j : Judged} → r ≡ Ends j → told_judged j ≡ judge_after R b a old
+  pub step_ends : {j : Result Whole RefusedAt} → r ≡ Break j → told_judged j ≡ judge_after R b a old
   step_ends {j} e = sym (ap (λ (x : Next). judge_next R b x new) (ap next_as e)) ∙ is.same
 
 pub from_start : (R : Readings) (b carry : Bytes) (r : Reading) → known_as r ≡ start

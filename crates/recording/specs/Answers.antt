@@ -1,5 +1,5 @@
 -- What the code of judging answers. Assumes nothing.
-use Rattle.std.specs.Prelude.{ℕ, ◌+◌, ◌-◌, ◌≤◌, ◌<◌, ◌≡◌, false, ltb, length, drop}
+use Rattle.std.specs.Prelude.{Result, Ok, Err, ℕ, ◌+◌, ◌-◌, ◌≤◌, ◌<◌, ◌≡◌, false, ltb, length, drop}
 use Rattle.std.proofs.Math.Option.{none}
 use Rattle.octets.specs.Pick.{pick}
 use Rattle.octets.specs.Octets.{Bytes}
@@ -13,18 +13,18 @@ use Rattle.feed_partial.specs.Rest.{rest_refusal}
 use Rattle.feed_pages.specs.declared.Stop.{Stop}
 use Rattle.feed_pages.specs.declared.Stop.TheVariants.{Refused as Stopped, Cut, Full}
 use Rattle.feed_pages.specs.declared.PagesFed.{PagesFed}
-use Rattle.recording.specs.declared.Judged.{Judged}
-use Rattle.recording.specs.declared.Judged.TheVariants.{Whole, Refused}
+use Rattle.recording.specs.declared.Whole.{Whole}
+use Rattle.recording.specs.declared.RefusedAt.{RefusedAt}
 use Rattle.recording.specs.declared.Accepted.{Accepted}
-use Rattle.recording.specs.declared.Step.{Step}
-use Rattle.recording.specs.declared.Step.TheVariants.{Goes, Ends}
+use Rattle.std.specs.declared.ops.ControlFlow.{ControlFlow}
+use Rattle.std.specs.declared.ops.ControlFlow.TheVariants.{Continue, Break}
 use Rattle.recording.specs.Pages.{pages_of}
 use Rattle.recording.specs.Judging.{Judgement, whole, refused, judged_by}
 use Rattle.recording.specs.Code.{judge_from}
 
-abbrev pub told_judged : Judged → Judgement
-told_judged (Whole pages packets) = whole pages packets
-told_judged (Refused why page) = refused (number_of why) page
+abbrev pub told_judged : Result Whole RefusedAt → Judgement
+told_judged (Ok w) = whole w.pages w.packets
+told_judged (Err r) = refused (number_of r.why) r.page
 
 -- after the last whole page, where `rest` bytes are left
 abbrev pub at_end : Reader → ℕ → ℕ → ℕ → Judgement
@@ -45,9 +45,13 @@ pub data Next : Type 0 where
   goes : Accepted → Next
   ends : Judgement → Next
 
+-- a run of pages leads to the judgement, or more pages are accepted
+abbrev pub Step : Type 0
+Step = ControlFlow (Result Whole RefusedAt) Accepted
+
 abbrev pub next_as : Step → Next
-next_as (Goes a) = goes a
-next_as (Ends j) = ends (told_judged j)
+next_as (Continue a) = goes a
+next_as (Break j) = ends (told_judged j)
 
 -- the pages a and those of the run f
 abbrev pub with_run : Accepted → PagesFed → Accepted

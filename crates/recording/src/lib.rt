@@ -13,13 +13,28 @@ use feed_pages::{PagesFed, Stop};
 use limits::PACKET_MAX;
 use reader::Reader;
 use refusal::Refusal;
+use std::ops::ControlFlow;
 
+// How many pages and how many audio packets a whole stream has.
 #[derive(Clone, Copy)]
-pub enum Judged {
-    // how many pages and how many audio packets it has
-    Whole(usize, usize),
-    // 2 to 18 and the page so refused, the first being page 0; or 24 and how many pages there are
-    Refused(Refusal, usize),
+pub struct Whole {
+    pub pages: usize,
+    pub packets: usize,
+}
+
+// A refusal, 2 to 18, and the page so refused, the first being page 0; or 24, and how many pages there are.
+#[derive(Clone, Copy)]
+pub struct RefusedAt {
+    pub why: Refusal,
+    pub page: usize,
+}
+
+impl From<RefusedAt> for Refusal {
+    ghost from_gives = { λ r why. why ≡ r.why };
+
+    fn from(refused: RefusedAt) -> Refusal {
+        refused.why
+    }
 }
 
 // The pages accepted so far: the reader after them, their bytes, how many they are, and how many audio packets they complete.
@@ -31,23 +46,26 @@ struct Accepted {
     packets: usize,
 }
 
-#[derive(Clone, Copy)]
-enum Step {
-    Goes(Accepted),
-    Ends(Judged),
-}
+// What follows a run of pages: the pages accepted so far, or the judgement.
+type Step = ControlFlow<Result<Whole, RefusedAt>, Accepted>;
 
 // The judgement after the last whole page, where `rest` bytes are left.
-fn judge_rest(reader: Reader, rest: usize, pages: usize, packets: usize) -> Judged
+fn judge_rest(reader: Reader, rest: usize, pages: usize, packets: usize) -> Result<Whole, RefusedAt>
     ensures { told_judged result ≡ at_end (known_as reader) rest pages packets }
 {
     if rest > 0 {
-        return Judged::Refused(feed_partial::refusal_of_rest(reader), pages);
+        return Err(RefusedAt {
+            why: feed_partial::refusal_of_rest(reader),
+            page: pages,
+        });
     }
     if reader::in_headers(reader) {
-        return Judged::Refused(Refusal::HeadersIncomplete, pages);
+        return Err(RefusedAt {
+            why: Refusal::HeadersIncomplete,
+            page: pages,
+        });
     }
-    Judged::Whole(pages, packets)
+    Ok(Whole { pages, packets })
 }
 
 // What follows a run of pages in a buffer of `len` bytes. `before` are the pages accepted before the run.
@@ -62,9 +80,9 @@ fn judge_run(before: Accepted, len: usize, fed: PagesFed) -> Step
     let pages = before.pages + p.pages;
     let packets = before.packets + p.packets;
     match stop {
-        Stop::Refused(why) => Step::Ends(Judged::Refused(why, pages)),
-        Stop::Cut => Step::Ends(judge_rest(reader, len - bytes, pages, packets)),
-        Stop::Full => Step::Goes(Accepted {
+        Stop::Refused(why) => ControlFlow::Break(Err(RefusedAt { why, page: pages })),
+        Stop::Cut => ControlFlow::Break(judge_rest(reader, len - bytes, pages, packets)),
+        Stop::Full => ControlFlow::Continue(Accepted {
             reader,
             bytes,
             pages,
@@ -100,7 +118,7 @@ fn judge_in(
     lengths: &mut [u64],
     kept: &mut [u64],
     frames: &mut [u64],
-) -> Judged
+) -> Result<Whole, RefusedAt>
     requires { is_short (lent_of carry.old ends.old lengths.old kept.old frames.old) ≡ false }
     ensures { told_judged result ≡ judge_buffer (readings page_crc) buffer.now }
 {
@@ -112,8 +130,8 @@ fn judge_in(
     };
     loop {
         match feed_run(accepted, buffer, carry, ends, lengths, kept, frames) {
-            Step::Goes(next) => accepted = next,
-            Step::Ends(judged) => return judged,
+            ControlFlow::Continue(next) => accepted = next,
+            ControlFlow::Break(judged) => return judged,
         }
     }
 }
@@ -121,9 +139,9 @@ fn judge_in(
 // Judges the bytes of a buffer as one stream (RULES.md, 15). Its pages are fed one by one, as `reader::feed` would take them
 // with enough memory, and bytes after the last whole page as they are. The first refusal decides: 2 to 18, with its page. 24:
 // no page is refused, but the comment header is not complete. Else the stream is whole, also where no page is marked last.
-// Example: an empty buffer gives `Judged::Refused(Refusal::HeadersIncomplete, 0)`, and the two header pages of a stream, with
-// nothing after them, give `Judged::Whole(2, 0)`.
-pub fn judge(buffer: &[u8]) -> Judged
+// Example: an empty buffer gives a refusal by 24 at page 0, and the two header pages of a stream, with
+// nothing after them, give `Ok(Whole { 2, 0 })`.
+pub fn judge(buffer: &[u8]) -> Result<Whole, RefusedAt>
     ensures { told_judged result ≡ judge_buffer (readings page_crc) buffer.now }
 {
     let mut carry = [0u8; PACKET_MAX];

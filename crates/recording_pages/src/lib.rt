@@ -6,8 +6,6 @@ ghost use Rattle.recording.specs.Pages.{pages_of};
 ghost use Rattle.stream.specs.Page.{ends};
 ghost use Rattle.recording_pages.specs.Places.{page_at, place_of, headers_end};
 
-use page_end::End;
-
 // A page of a buffer: its number, the first being page 0, and where it begins.
 #[derive(Clone, Copy)]
 pub struct Place {
@@ -20,14 +18,7 @@ pub struct Place {
 pub fn has_end(lacing: &[u8]) -> bool
     ensures { result ≡ ends lacing.now }
 {
-    let mut i = 0;
-    while i < lacing.len() {
-        if lacing[i] < 255 {
-            return true;
-        }
-        i += 1;
-    }
-    false
+    lacing.iter().any(|v| *v < 255)
 }
 
 // The bytes of the page at a place, up to the end of the buffer where it is cut (RULES.md, 15). It refuses nothing: at the end
@@ -37,8 +28,8 @@ pub fn page_at(stream: &[u8], at: usize) -> &[u8]
     ensures { result.now ≡ page_at stream.now at }
 {
     match page_end::end_at(stream, at) {
-        End::At(end) => octets::part_of(stream, at, end - at),
-        End::Cut => octets::part_of(stream, at, stream.len()),
+        Some(end) => octets::part_of(stream, at, end - at),
+        None => octets::part_of(stream, at, stream.len()),
     }
 }
 

@@ -1,11 +1,6 @@
 -- No refusal has the number 0. Assumes nothing.
 use mathlib.Core.Path.{refl}
-use Rattle.refusal.specs.declared.Refusal.TheVariants.{ShortRoom, AfterEnd, NotOnePage, WrongChecksum, OtherSerial}
-use Rattle.refusal.specs.declared.Refusal.TheVariants.{OutOfSequence, WrongFlags, WrongContinued, PacketTooLong}
-use Rattle.refusal.specs.declared.Refusal.TheVariants.{HeaderShape, WrongGranule, BadHead, BadMapping, BadTags}
-use Rattle.refusal.specs.declared.Refusal.TheVariants.{IllegalPacket, MixedLengths, GranuleTooSmall, BelowPreSkip}
-use Rattle.refusal.specs.declared.Refusal.TheVariants.{NoPosition, NoSuchPart, BadGain, ShortOutput, UnfitFields}
-use Rattle.refusal.specs.declared.Refusal.TheVariants.{HeadersIncomplete, FallingGranule, NoCropStart, ClockRange}
+use Rattle.refusal.specs.declared.Refusal.TheVariants.{ShortRoom, AfterEnd, NotOnePage, WrongChecksum, OtherSerial, OutOfSequence, WrongFlags, WrongContinued, PacketTooLong, HeaderShape, WrongGranule, BadHead, BadMapping, BadTags, IllegalPacket, MixedLengths, GranuleTooSmall, BelowPreSkip, NoPosition, NoSuchPart, BadGain, ShortOutput, UnfitFields, HeadersIncomplete, FallingGranule, NoCropStart, ClockRange}
 use Rattle.refusal.specs.Statements.{NumbersPositive}
 
 pub numbers_positive : NumbersPositive

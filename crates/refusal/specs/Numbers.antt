@@ -1,13 +1,7 @@
 -- The number of each refusal (RULES.md, 2). Assumes nothing.
 use Rattle.std.specs.Prelude.{ℕ}
 use Rattle.refusal.specs.declared.Refusal.{Refusal}
-use Rattle.refusal.specs.declared.Refusal.TheVariants.{ShortRoom, AfterEnd, NotOnePage, WrongChecksum}
-use Rattle.refusal.specs.declared.Refusal.TheVariants.{OtherSerial, OutOfSequence, WrongFlags, WrongContinued}
-use Rattle.refusal.specs.declared.Refusal.TheVariants.{PacketTooLong, HeaderShape, WrongGranule, BadHead}
-use Rattle.refusal.specs.declared.Refusal.TheVariants.{BadMapping, BadTags, IllegalPacket, MixedLengths}
-use Rattle.refusal.specs.declared.Refusal.TheVariants.{GranuleTooSmall, BelowPreSkip, NoPosition, NoSuchPart}
-use Rattle.refusal.specs.declared.Refusal.TheVariants.{BadGain, ShortOutput, UnfitFields}
-use Rattle.refusal.specs.declared.Refusal.TheVariants.{HeadersIncomplete, FallingGranule, NoCropStart, ClockRange}
+use Rattle.refusal.specs.declared.Refusal.TheVariants.{ShortRoom, AfterEnd, NotOnePage, WrongChecksum, OtherSerial, OutOfSequence, WrongFlags, WrongContinued, PacketTooLong, HeaderShape, WrongGranule, BadHead, BadMapping, BadTags, IllegalPacket, MixedLengths, GranuleTooSmall, BelowPreSkip, NoPosition, NoSuchPart, BadGain, ShortOutput, UnfitFields, HeadersIncomplete, FallingGranule, NoCropStart, ClockRange}
 
 abbrev pub number_of : Refusal → ℕ
 number_of ShortRoom = 1

@@ -1,6 +1,6 @@
 -- What a call tells: what it gives, or a refusal's number and nothing else (RULES.md, 2). The contract of every function that
 -- can refuse uses this. Assumes nothing.
-use Rattle.std.specs.Prelude.{ℕ}
+use Rattle.std.specs.Prelude.{ℕ, Result, Ok, Err}
 use Rattle.std.proofs.Math.Option.{Option, none, some}
 use Rattle.refusal.specs.declared.Refusal.{Refusal}
 use Rattle.refusal.specs.Numbers.{number_of}
@@ -8,6 +8,11 @@ use Rattle.refusal.specs.Numbers.{number_of}
 pub data Told (A : Type 0) : Type 0 where
   gives : A → Told A
   refuses : ℕ → Told A
+
+-- what the code's answer tells
+abbrev pub told : {A : Type 0} → Result A Refusal → Told A
+told (Ok a) = gives a
+told (Err r) = refuses (number_of r)
 
 -- what is told where the checks found this refusal, or none
 abbrev pub decided : {A : Type 0} → Option Refusal → A → Told A

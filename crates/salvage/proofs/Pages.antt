@@ -1,4 +1,6 @@
 -- A page put into its place of the output. Assumes nothing.
+use Rattle.refusal.specs.declared.Refusal.{Refusal}
+use Rattle.std.specs.Prelude.{Result, Ok, Err}
 use Rattle.std.proofs.Common.{◌≡◌, ℕ, ◌+◌, ◌-◌, ◌%◌, ◌^◌, ◌<◌, ◌≤◌, Bool, true, false, eqb, length, sym, refl, ap, ◌∙◌, arith, length-drop, eqb-true}
 use mathlib.Core.Bool.{false≢true}
 use borrow.Rule.Slice.PartMut.{mid_of, put_mid}
@@ -9,7 +11,6 @@ use Rattle.page_layout.specs.Page.{checksum_of}
 use Rattle.page_size.specs.Size.{is_one_page}
 use Rattle.page_reader.specs.Reading.{read_page}
 use Rattle.page_reader.proofs.Reading.{wrong_checksum}
-use Rattle.page_writer.specs.declared.PageWritten.{PageWritten}
 use Rattle.page_writer.specs.Writing.{page_bytes}
 use Rattle.page_writer.proofs.RoundTrip.{page-again}
 use Rattle.page_writer.proofs.Part.{part_from, in_part}
@@ -68,7 +69,7 @@ as_it_is_lem p next n o good link small same = by next.form.lead refl same
 
 -- ---- a page written to a part of the output
 
-pub put-tidied : (p : Bytes) (f : Form) (n : ℕ) (d : Bytes) (at : ℕ) (r : PageWritten) (ys : Bytes) → Octets p → is_one_page p ≡ true
+pub put-tidied : (p : Bytes) (f : Form) (n : ℕ) (d : Bytes) (at : ℕ) (r : Result ℕ Refusal) (ys : Bytes) → Octets p → is_one_page p ≡ true
     → at + kept_size f p ≤ length d → WroteTidied f n p (mid_of at (length d - at) d) r ys
     → put_mid at (length d - at) d ys ≡ copied d at (tidied_bytes f n p)
 unfolding tidy_page

@@ -1,6 +1,7 @@
 -- Salvage into lent memory (RULES.md, 16): 1 before all else, then what salvage gives, and 22 where that does not fit. Assumes
 -- nothing.
-use Rattle.std.specs.Prelude.{◌≡◌, ℕ, min, ◌||◌, List, [], ◌++◌, map, length, drop, nat_lt}
+use Rattle.std.specs.Prelude.{Result, Ok, Err, ◌≡◌, ℕ, min, ◌||◌, List, [], ◌++◌, map, length, drop, nat_lt}
+use Rattle.refusal.specs.declared.Refusal.{Refusal}
 use Rattle.octets.specs.Pick.{pick}
 use Rattle.octets.specs.Octets.{Bytes, copied}
 use Rattle.refusal.specs.declared.Refusal.TheVariants.{ShortRoom, ShortOutput}
@@ -12,7 +13,6 @@ use Rattle.salvage_rules.specs.Lines.{Line}
 use Rattle.salvage_rules.specs.Rounds.{Salvage, refused, saved, salvage}
 use Rattle.salvage_kept.specs.Found.{is_short_work}
 use Rattle.salvage.specs.declared.Salvaged.{Salvaged}
-use Rattle.salvage.specs.declared.Salvaged.TheVariants.{Written, Refused}
 
 -- how many bytes and lines are written
 pub record Amounts : Type 0 where
@@ -58,9 +58,9 @@ abbrev pub Free : List ℕ → Type 0
 Free ws = Unit {0}
 
 -- what the code's answer tells
-abbrev pub told_salvaged : Salvaged → Told Amounts
-told_salvaged (Written bytes lines) = gives (amounts bytes lines)
-told_salvaged (Refused why) = refuses (number_of why)
+abbrev pub told_salvaged : Result Salvaged Refusal → Told Amounts
+told_salvaged (Ok s) = gives (amounts s.bytes s.lines)
+told_salvaged (Err why) = refuses (number_of why)
 
 abbrev pub what_in : Line → ℕ
 what_in l = l.what

@@ -11,19 +11,17 @@ ghost use Rattle.salvage.specs.Code.{is_same, Kept, CanPut, CanWrite, PagesWritt
 
 use octets::least;
 use refusal::Refusal;
-use salvage_kept::KeptFound;
 use salvage_list::Listed;
 use walk::Walk;
 
 mod lines;
 mod walk;
 
+// How many bytes and how many lines were written.
 #[derive(Clone, Copy)]
-pub enum Salvaged {
-    // how many bytes and how many lines were written
-    Written(usize, usize),
-    // 1, 24 or 22
-    Refused(Refusal),
+pub struct Salvaged {
+    pub bytes: usize,
+    pub lines: usize,
 }
 
 // ---- pages
@@ -54,7 +52,7 @@ fn put_page(page: &[u8], next: Listed, walk: Walk, out: &mut [u8])
         octets::copy_at(out, at, page);
         return;
     }
-    salvage_page::write_tidied(page, next.form, walk.number, &mut out[at..]);
+    let _ = salvage_page::write_tidied(page, next.form, walk.number, &mut out[at..]);
 }
 
 // Writes all pages of the list, one after the other, and walks over them.
@@ -103,21 +101,27 @@ fn put_kept(
     what: &mut [u64],
     places: &mut [u64],
     sizes: &mut [u64],
-) -> Salvaged
+) -> Result<Salvaged, Refusal>
     requires { Kept buffer.now list.now }
     ensures { PutsKept buffer.now list.now (told_salvaged result) out what places sizes }
 {
     let room = least(what.len(), least(places.len(), sizes.len()));
     if is_short(buffer, list, out.len(), room) {
-        return Salvaged::Refused(Refusal::ShortOutput);
+        return Err(Refusal::ShortOutput);
     }
     let walk = write_pages(buffer, list, out);
     let lines = walk::lines_in(walk, buffer.len());
     if lines == 0 {
-        return Salvaged::Written(walk.bytes, 0);
+        return Ok(Salvaged {
+            bytes: walk.bytes,
+            lines: 0,
+        });
     }
     lines::write_lines(buffer, list, what, places, sizes);
-    Salvaged::Written(walk.bytes, lines)
+    Ok(Salvaged {
+        bytes: walk.bytes,
+        lines,
+    })
 }
 
 // Saves what can be saved of a stream in a buffer of which some bytes may be damaged (RULES.md, 16): its good pages, without the
@@ -127,7 +131,7 @@ fn put_kept(
 // 1, before all else: the work list has fewer places than a 27th of the buffer's bytes. 24: no good page is marked first, or what
 // is kept lacks a whole header. 22: the output is shorter than what is saved, or one of the columns than the lines are many.
 // A refusal writes to the work list alone. What that holds at the end is free.
-// Example: of the pages of a whole stream it is `Salvaged::Written(n, 0)`, n being the buffer's bytes, which are copied to `out`.
+// Example: of the pages of a whole stream it gives no lines and as many bytes as the buffer has, which are copied to `out`.
 pub fn salvage(
     buffer: &[u8],
     work: &mut [u64],
@@ -135,11 +139,9 @@ pub fn salvage(
     what: &mut [u64],
     places: &mut [u64],
     sizes: &mut [u64],
-) -> Salvaged
+) -> Result<Salvaged, Refusal>
     ensures { Salvages buffer.now (told_salvaged result) work out what places sizes }
 {
-    match salvage_kept::find_kept(buffer, work) {
-        KeptFound::Pages(n) => put_kept(buffer, &work[..n], out, what, places, sizes),
-        KeptFound::Refused(why) => Salvaged::Refused(why),
-    }
+    let n = salvage_kept::find_kept(buffer, work)?;
+    put_kept(buffer, &work[..n], out, what, places, sizes)
 }

@@ -1,4 +1,5 @@
 -- Feeding a tidied page by its parts is one step of the state. Assumes nothing.
+use Rattle.std.specs.Prelude.{Result, Ok, Err}
 use Prim.Native.Nat.{ℕ}
 use mathlib.Core.Path.{◌≡◌, refl, sym, ap, ◌∙◌}
 use mathlib.Core.Bool.{true, false}
@@ -14,7 +15,6 @@ use Rattle.stream.specs.declared.Core.{Core}
 use Rattle.stream.specs.declared.Tally.{Tally}
 use Rattle.stream.specs.declared.Counts.{Counts}
 use Rattle.stream.specs.declared.PageFed.{PageFed}
-use Rattle.stream.specs.declared.PageFed.TheVariants.{Accepted, Refused}
 use Rattle.stream.specs.Page.{page_of}
 use Rattle.stream.specs.Readings.{Readings, readings}
 use Rattle.stream.specs.State.{State}
@@ -60,22 +60,22 @@ module _ (core : Core) (tally : Tally) (m left : Lent) (b : Bytes) (room : is_sh
   one_step = stepped R (reader_of core tally) m b room
 
   -- by what the code's answer r is
-  pub accepts : {r : PageFed} {next : Core} {t : Tally} {k : Counts} → r ≡ Accepted next t k → Feeds R (reader_of core tally) b m (told_page r) left
+  pub accepts : {r : Result PageFed Refusal} {next : Core} {t : Tally} {k : Counts} → r ≡ (Ok (record { core = next; tally = t; counts = k })) → Feeds R (reader_of core tally) b m (told_page r) left
       → Accepts core b m.carry next left.carry
   accepts {r} {next} {t} {k} q is = by (verdict R s b) refl one_step
     where
-      told : (feed R (reader_of core tally) m b).told ≡ told_page (Accepted next t k)
+      told : (feed R (reader_of core tally) m b).told ≡ told_page (Ok (record { core = next; tally = t; counts = k }))
       told = sym is.told ∙ ap told_page q
 
       by : (v : Option Refusal) → verdict R s b ≡ v → Stepped R (reader_of core tally) s b v (feed R (reader_of core tally) m b) → Accepts core b m.carry next left.carry
       by none e x = record { accepted = e; state = rw is.lent (rw told at x.view) }
       by (some n) e x = absurd (gives≢refuses (rw told at x.told))
 
-  pub refused : {r : PageFed} {why : Refusal} → r ≡ Refused why → Feeds R (reader_of core tally) b m (told_page r) left
+  pub refused : {r : Result PageFed Refusal} {why : Refusal} → r ≡ Err why → Feeds R (reader_of core tally) b m (told_page r) left
       → Refuses core b m.carry left.carry
   refused {r} {why} q is = by (verdict R s b) refl one_step
     where
-      told : (feed R (reader_of core tally) m b).told ≡ told_page (Refused why)
+      told : (feed R (reader_of core tally) m b).told ≡ told_page (Err why)
       told = sym is.told ∙ ap told_page q
 
       by : (v : Option Refusal) → verdict R s b ≡ v → Stepped R (reader_of core tally) s b v (feed R (reader_of core tally) m b) → Refuses core b m.carry left.carry

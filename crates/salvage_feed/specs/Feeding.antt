@@ -1,5 +1,5 @@
 -- A page of the input fed as it is tidied (RULES.md, 16). Assumes nothing.
-use Rattle.std.specs.Prelude.{ℕ, ◌≡◌}
+use Rattle.std.specs.Prelude.{Option, Some, None, ℕ, ◌≡◌}
 use Rattle.std.proofs.Math.Option.{none, some}
 use Rattle.octets.specs.Octets.{Bytes}
 use Rattle.refusal.specs.declared.Refusal.{Refusal}
@@ -12,8 +12,6 @@ use Rattle.stream.specs.Feed.{view}
 use Rattle.salvage_rules.specs.declared.Form.{Form}
 use Rattle.salvage_rules.specs.Links.{tidied}
 use Rattle.salvage_rules.specs.Rounds.{page_out}
-use Rattle.salvage_feed.specs.declared.TidiedFed.{TidiedFed}
-use Rattle.salvage_feed.specs.declared.TidiedFed.TheVariants.{Accepted, Refused}
 
 -- the page p without the pieces that the form removes, as number n of the list; where it lies in the input makes no difference
 abbrev pub tidied_bytes : Form → ℕ → Bytes → Bytes
@@ -30,6 +28,6 @@ pub record Refuses (core : Core) (b old new : Bytes) : Type 0 where
   pub refused : verdict (readings page_crc) (view core old) b ≡ some why
   pub state : view core new ≡ view core old
 
-abbrev pub FeedsTidied : Core → Bytes → Bytes → TidiedFed → Bytes → Type 0
-FeedsTidied core b old (Accepted next) new = Accepts core b old next new
-FeedsTidied core b old Refused new = Refuses core b old new
+abbrev pub FeedsTidied : Core → Bytes → Bytes → Option Core → Bytes → Type 0
+FeedsTidied core b old (Some next) new = Accepts core b old next new
+FeedsTidied core b old None new = Refuses core b old new

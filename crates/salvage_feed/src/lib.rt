@@ -9,14 +9,7 @@ ghost use Rattle.stream.specs.Lent.{is_short, at_entry};
 ghost use Rattle.salvage_feed.specs.Feeding.{tidied_bytes, FeedsTidied};
 
 use salvage_rules::Form;
-use stream::{Core, PageFed};
-
-#[derive(Clone, Copy)]
-pub enum TidiedFed {
-    // the core after the page
-    Accepted(Core),
-    Refused,
-}
+use stream::Core;
 
 // Feeds a page as it is tidied, as number `number` of the list, to the core of a reader (RULES.md, 7 and 16): the page being
 // one by 3 and 4, and with room for the feeding (1), this is one step of feeding the tidied page's bytes, whose checksum is
@@ -34,7 +27,7 @@ pub fn feed_tidied(
     lengths: &mut [u64],
     kept: &mut [u64],
     frames: &mut [u64],
-) -> TidiedFed
+) -> Option<Core>
     ensures { is_good (read_page page_crc page.now) ≡ true →
         is_short (at_entry carry ends lengths kept frames) ≡ false →
         FeedsTidied core (tidied_bytes form number page.now) carry.old result carry.new }
@@ -46,7 +39,7 @@ pub fn feed_tidied(
     match feed_page::feed_parts(
         core, tally, h, lacing, body, carry, ends, lengths, kept, frames,
     ) {
-        PageFed::Accepted(next, _, _) => TidiedFed::Accepted(next),
-        PageFed::Refused(_) => TidiedFed::Refused,
+        Ok(fed) => Some(fed.core),
+        Err(_) => None,
     }
 }

@@ -1,4 +1,5 @@
 -- The next page of the list is fed. Assumes nothing.
+use Rattle.std.specs.Prelude.{Option, Some, None}
 use Rattle.std.proofs.Common.{◌≡◌, ℕ, suc, ◌+◌, ◌<◌, Bool, true, false, not, ◌&&◌, List, [], ◌∷◌, ◌++◌, length, get_or, sym, refl, ap, ◌∙◌, subst, ap₂}
 use Rattle.octets.specs.Octets.{Bytes}
 use Rattle.octets.proofs.Tests.{both}
@@ -24,7 +25,6 @@ use Rattle.salvage_list.specs.Next.{next_listed, known_cut, ListedIs}
 use Rattle.salvage_list.proofs.Next.{next-listed, further}
 use Rattle.salvage_list.proofs.Known.{known_is}
 use Rattle.salvage_feed.specs.Feeding.{tidied_bytes, Accepts, Refuses, FeedsTidied}
-use Rattle.salvage_feed.specs.declared.TidiedFed.{TidiedFed}
 use Rattle.salvage_kept.specs.declared.Point.{Point}
 use Rattle.salvage_kept.specs.declared.Pass.{Pass}
 use Rattle.salvage_kept.specs.Code.{R, point_after, pass_of, Holds}
@@ -93,7 +93,7 @@ module _ {b : Bytes} {G : List Good} {ws : List ℕ} {p : Pass} {next : Listed} 
   out = tidied_bytes next.form p.now.number (bytes_at b next.place)
 
   -- what feeding the page told, the page being found in the buffer
-  pub told : (r : TidiedFed) (left : Bytes) {page : Bytes} → page ≡ bytes_at b next.place
+  pub told : (r : Option Core) (left : Bytes) {page : Bytes} → page ≡ bytes_at b next.place
       → (is_good (read_page page_crc page) ≡ true → is_short m ≡ false
       → FeedsTidied p.now.core (tidied_bytes next.form p.now.number page) m.carry r left)
       → FeedsTidied p.now.core out m.carry r left

@@ -1,4 +1,5 @@
 -- The kept pages are found in the first places of the work list. Assumes nothing.
+use Rattle.std.specs.Prelude.{Result, Ok, Err}
 use Rattle.std.proofs.Common.{◌≡◌, ℕ, suc, ◌+◌, ◌*◌, ◌/◌, ◌^◌, ◌<◌, ◌≤◌, Bool, true, false, ltb, List, [], ◌∷◌, ◌++◌, map, length, take, drop, sym, refl, ap, ◌∙◌, subst, true≢false, arith, length-append, take_at, le-ltb, lt-ltb}
 use lib.Seq.{sets, sets-eq, take-append_seam}
 use Rattle.octets.specs.Octets.{Bytes}
@@ -17,11 +18,10 @@ use Rattle.salvage_list.specs.Collect.{stream_pages, places_of, Collected}
 use Rattle.salvage_list.proofs.Collected.{collected_listed, few-pages, each-good}
 use Rattle.salvage_kept.specs.Code.{R}
 use Rattle.salvage_kept.specs.Promises.{AllGood, Settles}
-use Rattle.salvage_kept.specs.declared.KeptFound.TheVariants.{Pages, Refused}
 use Rattle.salvage_kept.specs.Found.{is_short_work, find_kept, FindsKept}
 
 -- 1
-pub found-short : (b : Bytes) (old : List ℕ) → length old < length b / 27 → FindsKept b (Refused ShortRoom) old old
+pub found-short : (b : Bytes) (old : List ℕ) → length old < length b / 27 → FindsKept b (Err ShortRoom) old old
 unfolding find_kept first_of
 found-short b old h = record { told = rw (lt-ltb (length old) (length b / 27) h); kept = tt; short = λ e. refl }
 
@@ -62,11 +62,11 @@ module _ (b : Bytes) (old work : List ℕ) (n : ℕ) (fits : length b < 2 ^ 64) 
     not_short e = let z : ◌≡◌ {A = Bool} true false = sym e ∙ long in absurd (true≢false z)
 
     -- 24
-    pub found-due : (end : List ℕ) → due ≡ true → FindsKept b (Refused HeadersIncomplete) old end
+    pub found-due : (end : List ℕ) → due ≡ true → FindsKept b (Err HeadersIncomplete) old end
     unfolding find_kept first_of
     found-due end e = record { told = rw (long, headers ∙ e); kept = tt; short = λ q. not_short q }
 
-    pub found-kept : (rest : List ℕ) → due ≡ false → length list ≡ n → FindsKept b (Pages n) old (list ++ rest)
+    pub found-kept : (rest : List ℕ) → due ≡ false → length list ≡ n → FindsKept b (Ok n) old (list ++ rest)
     unfolding find_kept first_of
     found-kept rest e l = record {
       told = rw (long, headers ∙ e) (ap gives c.count);

@@ -1,4 +1,5 @@
 -- Pages are fed until one is refused. Assumes nothing.
+use Rattle.std.specs.Prelude.{Option, Some, None}
 use Rattle.std.proofs.Common.{◌≡◌, ℕ, suc, ◌-◌, ◌^◌, ◌<◌, ◌≤◌, false, List, length, sym, refl, ap, ◌∙◌, subst, arith}
 use Rattle.octets.specs.Octets.{Bytes}
 use Rattle.stream.specs.Lent.{Lent, is_short}
@@ -7,8 +8,6 @@ use Rattle.salvage_list.specs.declared.Listed.{Listed}
 use Rattle.salvage_list.specs.Next.{next_listed, ListedIs}
 use Rattle.salvage_list.proofs.Next.{further}
 use Rattle.salvage_kept.specs.declared.Pass.{Pass}
-use Rattle.salvage_kept.specs.declared.NextFed.{NextFed}
-use Rattle.salvage_kept.specs.declared.NextFed.TheVariants.{Accepted, Refused}
 use Rattle.salvage_kept.specs.Code.{Holds}
 use Rattle.salvage_kept.specs.Promises.{CanFeed, IsNext, IsRefused, NextFedIs, Onward, Ready, RunIs}
 
@@ -81,8 +80,8 @@ module _ {b : Bytes} {ws : List ℕ} {p q : Pass} {m n : Lent} {keep keeps spare
       room = (still_ready ready ran.alike).room;
     }
 
-    pub run_refused : (r : NextFed) (carried later : Bytes)
-        → ((G : List Good) (xs : List ℕ) → IsNext b G xs q next n keeps → NextFedIs b G xs q next.index r carried later) → r ≡ Refused
+    pub run_refused : (r : Option Pass) (carried later : Bytes)
+        → ((G : List Good) (xs : List ℕ) → IsNext b G xs q next n keeps → NextFedIs b G xs q next.index r carried later) → r ≡ None
         → RunIs b ws p m.carry keep (record { pass = q; index = next.index }) carried later
     run_refused r carried later fed e = record {
       index = is.index;
@@ -91,13 +90,13 @@ module _ {b : Bytes} {ws : List ℕ} {p q : Pass} {m n : Lent} {keep keeps spare
     }
       where
         refuses : (G : List Good) → Holds b G ws p m.carry keep → Holds b G ws q carried later × IsRefused b ws q next.index carried
-        refuses G h = subst (λ (z : NextFed). NextFedIs b G ws q next.index z carried later) e (fed G ws (next-is G h))
+        refuses G h = subst (λ (z : Option Pass). NextFedIs b G ws q next.index z carried later) e (fed G ws (next-is G h))
 
-    module _ (r : NextFed) (o : Lent) (later spare' : Bytes)
+    module _ (r : Option Pass) (o : Lent) (later spare' : Bytes)
         (fed : (G : List Good) (xs : List ℕ) → IsNext b G xs q next n keeps → NextFedIs b G xs q next.index r o.carry later)
         (alike : Alike n o keeps later spares spare') where
-      pub run_on : (x : Pass) → r ≡ Accepted x → Ran b ws p x m o keep later spare spare'
+      pub run_on : (x : Pass) → r ≡ Some x → Ran b ws p x m o keep later spare spare'
       run_on x e = record {
-        holds = λ G h. subst (λ (z : NextFed). NextFedIs b G ws q next.index z o.carry later) e (fed G ws (next-is G h));
+        holds = λ G h. subst (λ (z : Option Pass). NextFedIs b G ws q next.index z o.carry later) e (fed G ws (next-is G h));
         alike = alike_then ran.alike alike;
       }

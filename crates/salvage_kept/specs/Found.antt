@@ -1,18 +1,17 @@
 -- The kept pages found (RULES.md, 16). Assumes nothing.
-use Rattle.std.specs.Prelude.{◌≡◌, ℕ, ◌/◌, ◌≤◌, Bool, true, List, [], ◌∷◌, length, take, nat_lt}
+use Rattle.refusal.specs.Told.{told, Told, gives, refuses, decided}
+use Rattle.refusal.specs.declared.Refusal.{Refusal}
+use Rattle.std.specs.Prelude.{Result, Ok, Err, ◌≡◌, ℕ, ◌/◌, ◌≤◌, Bool, true, List, [], ◌∷◌, length, take, nat_lt}
 use Rattle.octets.specs.Octets.{Bytes}
 use Rattle.refusal.specs.declared.Refusal.TheVariants.{ShortRoom, HeadersIncomplete}
 use Rattle.refusal.specs.Checks.{Check, ◌when◌, first_of}
 use Rattle.refusal.specs.Numbers.{number_of}
-use Rattle.refusal.specs.Told.{Told, gives, refuses, decided}
 use Rattle.page_crc.specs.Crc.{page_crc}
 use Rattle.stream.specs.State.{in_headers}
 use Rattle.stream.specs.Stream.{phase_of}
 use Rattle.salvage_rules.specs.Rounds.{pages_out, kept_in}
 use Rattle.salvage_rules.specs.Listed.{listed_in}
 use Rattle.salvage_list.specs.Collect.{stream_pages}
-use Rattle.salvage_kept.specs.declared.KeptFound.{KeptFound}
-use Rattle.salvage_kept.specs.declared.KeptFound.TheVariants.{Pages, Refused}
 
 -- a page has 27 bytes at least: a work list has a place for each page that n bytes can have
 abbrev pub is_short_work : ℕ → ℕ → Bool
@@ -29,17 +28,12 @@ kept_checks b work =
 unfoldable pub find_kept : Bytes → ℕ → Told ℕ
 find_kept b work = decided (first_of (kept_checks b work)) (length (stream_pages page_crc b))
 
--- what the code's answer tells
-abbrev pub told_found : KeptFound → Told ℕ
-told_found (Pages n) = gives n
-told_found (Refused why) = refuses (number_of why)
-
 -- the pages of the first n places of the work list
-abbrev pub KeptAt : Bytes → KeptFound → List ℕ → Type 0
-KeptAt b (Pages n) work = (n ≤ length work) × (listed_in b (take n work) ≡ kept_in page_crc b)
-KeptAt b (Refused why) work = Unit {0}
+abbrev pub KeptAt : Bytes → Result ℕ Refusal → List ℕ → Type 0
+KeptAt b (Ok n) work = (n ≤ length work) × (listed_in b (take n work) ≡ kept_in page_crc b)
+KeptAt b (Err why) work = Unit {0}
 
-pub record FindsKept (b : Bytes) (r : KeptFound) (old work : List ℕ) : Type 0 where
-  pub told : told_found r ≡ find_kept b (length old)
+pub record FindsKept (b : Bytes) (r : Result ℕ Refusal) (old work : List ℕ) : Type 0 where
+  pub told : told r ≡ find_kept b (length old)
   pub kept : KeptAt b r work
   pub short : is_short_work (length b) (length old) ≡ true → work ≡ old

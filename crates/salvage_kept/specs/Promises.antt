@@ -1,5 +1,5 @@
 -- What the functions of the pass ask and promise. Assumes nothing.
-use Rattle.std.specs.Prelude.{◌≡◌, ℕ, suc, ◌+◌, ◌^◌, ◌<◌, ◌≤◌, Bool, true, false, List, length, slice_index, slice_set}
+use Rattle.std.specs.Prelude.{Option, Some, None, ◌≡◌, ℕ, suc, ◌+◌, ◌^◌, ◌<◌, ◌≤◌, Bool, true, false, List, length, slice_index, slice_set}
 use Rattle.std.proofs.Math.Option.{some}
 use Rattle.octets.specs.Octets.{Bytes}
 use Rattle.refusal.specs.declared.Refusal.{Refusal}
@@ -20,8 +20,6 @@ use Rattle.salvage_list.specs.declared.Listed.{Listed}
 use Rattle.salvage_list.specs.Next.{next_listed, ListedIs}
 use Rattle.salvage_kept.specs.declared.Pass.{Pass}
 use Rattle.salvage_kept.specs.declared.Run.{Run}
-use Rattle.salvage_kept.specs.declared.NextFed.{NextFed}
-use Rattle.salvage_kept.specs.declared.NextFed.TheVariants.{Accepted, Refused}
 use Rattle.salvage_kept.specs.Code.{R, Holds}
 
 -- every page of the list passes 3 and 4
@@ -49,14 +47,14 @@ pub record IsRefused (b : Bytes) (ws : List ℕ) (p : Pass) (i : ℕ) (carry : B
   pub refused : verdict R (view p.now.core carry)
       (next_out (pages_to b ws p.now.at) (good_in b (slice_index ws i)) (pages_from b ws (suc i))) ≡ some why
 
-abbrev pub NextFedIs : Bytes → List Good → List ℕ → Pass → ℕ → NextFed → Bytes → Bytes → Type 0
-NextFedIs b G ws p i (Accepted q) carry keep = Holds b G ws q carry keep
-NextFedIs b G ws p i Refused carry keep = Holds b G ws p carry keep × IsRefused b ws p i carry
+abbrev pub NextFedIs : Bytes → List Good → List ℕ → Pass → ℕ → Option Pass → Bytes → Bytes → Type 0
+NextFedIs b G ws p i (Some q) carry keep = Holds b G ws q carry keep
+NextFedIs b G ws p i None carry keep = Holds b G ws p carry keep × IsRefused b ws p i carry
 
 -- the pass is after the index i
-abbrev pub Onward : ℕ → NextFed → Type 0
-Onward i (Accepted q) = q.now.at ≡ suc i
-Onward i Refused = Unit {0}
+abbrev pub Onward : ℕ → Option Pass → Type 0
+Onward i (Some q) = q.now.at ≡ suc i
+Onward i None = Unit {0}
 
 -- ---- feeding until a page is refused
 

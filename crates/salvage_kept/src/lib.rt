@@ -18,21 +18,12 @@ ghost use Rattle.salvage_kept.specs.Found.{FindsKept};
 use feed_memory::held_in;
 use limits::{LIST_MAX, PACKET_MAX};
 use refusal::Refusal;
-use salvage_feed::TidiedFed;
 use salvage_list::{Listed, MISSING};
 use salvage_rules::{Link, Prior};
 use stream::Core;
 
 // The fewest bytes of a page.
 const PAGE_LEAST: usize = 27;
-
-#[derive(Clone, Copy)]
-pub enum KeptFound {
-    // how many places of the work list have a kept page, or none where a page went missing
-    Pages(usize),
-    // 1 or 24
-    Refused(Refusal),
-}
 
 // A point of the pass, after some pages of the list.
 #[derive(Clone, Copy)]
@@ -53,13 +44,6 @@ struct Point {
 struct Pass {
     now: Point,
     saved: Point,
-}
-
-// How feeding one page ends.
-#[derive(Clone, Copy)]
-enum NextFed {
-    Accepted(Pass),
-    Refused,
 }
 
 // How a run of feedings ends: before the page at this index, which is refused, or at the end of the list.
@@ -177,7 +161,7 @@ fn feed_next(
     lengths: &mut [u64],
     kept: &mut [u64],
     frames: &mut [u64],
-) -> NextFed
+) -> Option<Pass>
     requires { CanFeed next.index carry.old keep.old spare.old }
     ensures next_fed_is { (G : List Good) (ws : List ℕ) →
         IsNext buffer.now G ws pass next (at_entry carry ends lengths kept frames) keep.old →
@@ -191,19 +175,19 @@ fn feed_next(
     match salvage_feed::feed_tidied(
         core, page, next.form, now.number, carry, ends, lengths, kept, frames,
     ) {
-        TidiedFed::Accepted(after) => {
+        Some(after) => {
             let point = point_after(now, after, next);
             if begins(next.link) {
                 copy_held(core, spare, keep);
-                return NextFed::Accepted(Pass {
+                return Some(Pass {
                     now: point,
                     saved: now,
                 });
             }
             let saved = pass.saved;
-            NextFed::Accepted(Pass { now: point, saved })
+            Some(Pass { now: point, saved })
         }
-        TidiedFed::Refused => NextFed::Refused,
+        None => None,
     }
 }
 
@@ -236,8 +220,8 @@ fn feed_run(
         match feed_next(
             buffer, pass, next, carry, keep, spare, ends, lengths, kept, frames,
         ) {
-            NextFed::Accepted(after) => pass = after,
-            NextFed::Refused => return Run { pass, index },
+            Some(after) => pass = after,
+            None => return Run { pass, index },
         }
     }
 }
@@ -334,16 +318,16 @@ fn settle_list(buffer: &[u8], list: &mut [u64]) -> bool
 // `salvage_list::MISSING` has none. 1, before all else: the list has fewer places than a 27th of the buffer's bytes, and stays as
 // it is. 24: no page is marked first, or what is kept lacks a whole header; what the list then holds is free, as are its other
 // places.
-// Example: of the pages of a whole stream it is `KeptFound::Pages(n)`, n being how many they are; of no bytes it is 24.
-pub fn find_kept(buffer: &[u8], work: &mut [u64]) -> KeptFound
+// Example: of the pages of a whole stream it is `Ok(n)`, n being how many they are; of no bytes it is 24.
+pub fn find_kept(buffer: &[u8], work: &mut [u64]) -> Result<usize, Refusal>
     ensures { FindsKept buffer.now result work.old work.new }
 {
     if work.len() < buffer.len() / PAGE_LEAST {
-        return KeptFound::Refused(Refusal::ShortRoom);
+        return Err(Refusal::ShortRoom);
     }
     let n = salvage_list::collect(buffer, work);
     if settle_list(buffer, &mut work[..n]) {
-        return KeptFound::Refused(Refusal::HeadersIncomplete);
+        return Err(Refusal::HeadersIncomplete);
     }
-    KeptFound::Pages(n)
+    Ok(n)
 }

@@ -1,4 +1,6 @@
 -- One turn of each loop of collecting, and its end. Assumes nothing.
+use Rattle.octets.specs.Given.{given}
+use Rattle.std.specs.Prelude.{Option, Some, None}
 use Prim.Native.Nat.{ℕ, suc, ◌+◌, ◌≤◌, ◌<◌}
 use mathlib.Core.Path.{◌≡◌, refl, sym, ap, ◌∙◌}
 use mathlib.Core.Bool.{Bool, true, false}
@@ -16,9 +18,7 @@ use Rattle.stream.specs.Page.{page_of}
 use Rattle.salvage_search.specs.Search.{next_page}
 use Rattle.salvage_rules.specs.Good.{Good, good_pages, serial_in, of_serial, of_stream}
 use Rattle.salvage_rules.specs.Listed.{good_in}
-use Rattle.salvage_list.specs.declared.SerialFound.{SerialFound}
-use Rattle.salvage_list.specs.declared.SerialFound.TheVariants.{Serial, Nothing}
-use Rattle.salvage_list.specs.Collect.{places_of, seen_at, told_serial, Kept, Collected}
+use Rattle.salvage_list.specs.Collect.{places_of, seen_at, Kept, Collected}
 use Rattle.salvage_list.proofs.Walking.{left, Found, found, all_left, none_left, nearer, one_less}
 
 -- ---- the serial
@@ -105,10 +105,10 @@ module _ (crc : Bytes → ℕ) (b : Bytes) (n : ℕ) (old : List ℕ) where
 
 -- ---- the pages of the stream
 
-module _ (gs : List Good) (x : SerialFound) (h : told_serial x ≡ serial_in gs) where
-  pub of_serial_lem : {n r : ℕ} {old new : List ℕ} → x ≡ Serial n → Collected (of_serial n gs) r old new
+module _ (gs : List Good) (x : Option ℕ) (h : given x ≡ serial_in gs) where
+  pub of_serial_lem : {n r : ℕ} {old new : List ℕ} → x ≡ Some n → Collected (of_serial n gs) r old new
       → Collected (of_stream (serial_in gs) gs) r old new
   of_serial_lem e k = rw (← h, e) k
 
-  pub of_none : {old : List ℕ} → x ≡ Nothing → Collected (of_stream (serial_in gs) gs) 0 old old
+  pub of_none : {old : List ℕ} → x ≡ None → Collected (of_stream (serial_in gs) gs) 0 old old
   of_none e = rw (← h, e) (record { count = refl; stored = refl })

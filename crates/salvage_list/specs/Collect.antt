@@ -1,6 +1,5 @@
 -- The good pages of the stream that is salvaged, stored by their places (RULES.md, 16). Assumes nothing.
 use Rattle.std.specs.Prelude.{ℕ, ◌+◌, ◌≡◌, Bool, List, map, length, set}
-use Rattle.std.proofs.Math.Option.{Option, none, some}
 use Rattle.std.proofs.lemmas.List.Edits.{sets}
 use Rattle.octets.specs.Pick.{pick}
 use Rattle.octets.specs.Octets.{Bytes}
@@ -8,8 +7,6 @@ use Rattle.page_layout.specs.Page.{header_of}
 use Rattle.salvage_rules.specs.Good.{Good, good_pages, serial_in, of_stream}
 use Rattle.salvage_rules.specs.Listed.{bytes_at}
 use Rattle.salvage_list.specs.declared.Seen.{Seen}
-use Rattle.salvage_list.specs.declared.SerialFound.{SerialFound}
-use Rattle.salvage_list.specs.declared.SerialFound.TheVariants.{Serial, Nothing}
 
 -- the good pages of the buffer that are the stream's: those with the serial of the first one with a first-page mark
 abbrev pub stream_pages : (Bytes → ℕ) → Bytes → List Good
@@ -28,11 +25,6 @@ pub record Collected (gs : List Good) (r : ℕ) (old new : List ℕ) : Type 0 wh
 -- what the code sees of the page at a place
 unfoldable pub seen_at : Bytes → ℕ → Seen
 seen_at b at = record { header = header_of (bytes_at b at); end = at + length (bytes_at b at) }
-
--- what the code's answer tells
-abbrev pub told_serial : SerialFound → Option ℕ
-told_serial (Serial n) = some n
-told_serial Nothing = none
 
 -- a place is stored after `count` others where it is wanted, and r is how many are stored then
 pub record Kept (wanted : Bool) (count place r : ℕ) (old new : List ℕ) : Type 0 where

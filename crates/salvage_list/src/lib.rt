@@ -2,6 +2,7 @@
 // place is a number that is no place.
 #![tactic(auto)]
 
+ghost use Rattle.octets.specs.Given.{given};
 ghost use Rattle.std.specs.Prelude.{suc, ◌+◌, ◌<◌, ◌^◌, ◌≡◌, get_or, drop, set};
 ghost use Rattle.page_crc.specs.Crc.{page_crc};
 ghost use Rattle.page_crc.specs.Sliced.{page_sliced};
@@ -10,13 +11,13 @@ ghost use Rattle.salvage_rules.specs.Good.{good_pages, serial_in, of_serial};
 ghost use Rattle.salvage_rules.specs.Links.{link_cut};
 ghost use Rattle.salvage_rules.specs.Listed.{bytes_at, listed_in};
 ghost use Rattle.salvage_list.specs.Next.{next_listed, is_known, known_cut, ListedIs};
-ghost use Rattle.salvage_list.specs.Collect.{stream_pages, seen_at, told_serial, Kept, Collected};
+ghost use Rattle.salvage_list.specs.Collect.{stream_pages, seen_at, Kept, Collected};
 
-use page_end::End;
 use page_layout::PageHeader;
 use salvage_rules::{Form, Link, Prior};
 
-// What stands in a list of pages in place of a page that counts as missing: no place of a buffer.
+// What stands in a list of pages in place of a page that counts as missing: no place of a buffer. Stays a number: the list is
+// lent across C (embulgri_salvage).
 pub const MISSING: u64 = 18446744073709551615;
 
 // A page of a list: its index and its place there, what joins it to its neighbours, whether the packet that goes on after it is
@@ -37,14 +38,6 @@ struct Seen {
     end: usize,
 }
 
-// The serial of the stream that is salvaged.
-#[derive(Clone, Copy)]
-enum SerialFound {
-    Serial(u32),
-    // no good page has a first-page mark
-    Nothing,
-}
-
 // The bytes of the page that starts at this place of the buffer (RULES.md, 16); none where it is not whole in the buffer, or the
 // place is past its end. It refuses nothing: 27 bytes or more that begin no page are taken up to the end of the buffer.
 // Example: of "x" and a page of 27 bytes, `page_at(buffer, 1)` is the page, and `page_at(buffer, 2)` is empty.
@@ -53,8 +46,8 @@ pub fn page_at(buffer: &[u8], place: u64) -> &[u8]
 {
     let at = place as usize;
     match page_end::end_at(buffer, at) {
-        End::At(end) => octets::part_of(buffer, at, end - at),
-        End::Cut => octets::part_of(buffer, at, 0),
+        Some(end) => octets::part_of(buffer, at, end - at),
+        None => octets::part_of(buffer, at, 0),
     }
 }
 
@@ -88,18 +81,18 @@ fn seen_at(buffer: &[u8], place: usize) -> Seen
 }
 
 // The serial of the first good page with a first-page mark.
-fn serial_of(tables: &[u32; 4096], buffer: &[u8]) -> SerialFound
-    ensures { told_serial result ≡ serial_in (good_pages (page_sliced (entry_in tables.now)) buffer.now) }
+fn serial_of(tables: &[u32; 4096], buffer: &[u8]) -> Option<u32>
+    ensures { given result ≡ serial_in (good_pages (page_sliced (entry_in tables.now)) buffer.now) }
 {
     let mut place = salvage_search::next_page_with(tables, buffer, 0);
     while place < buffer.len() {
         let seen = seen_at(buffer, place);
         if page_flags::is_first_page(seen.header.flags) {
-            return SerialFound::Serial(seen.header.serial);
+            return Some(seen.header.serial);
         }
         place = salvage_search::next_page_with(tables, buffer, seen.end);
     }
-    SerialFound::Nothing
+    None
 }
 
 // Stores a number at an index of a list, and nothing where the list has no such index (RULES.md, 16). It refuses nothing.
@@ -107,9 +100,7 @@ fn serial_of(tables: &[u32; 4096], buffer: &[u8]) -> SerialFound
 pub fn store_at(list: &mut [u64], i: usize, x: u64)
     ensures { list.new ≡ set list.old i x }
 {
-    if i < list.len() {
-        list[i] = x;
-    }
+    lists::store_at(list, i, x);
 }
 
 // Stores a place after `count` others where it is wanted, and tells how many are stored.
@@ -145,8 +136,8 @@ fn collect_with(tables: &[u32; 4096], buffer: &[u8], work: &mut [u64]) -> usize
         work.old work.new }
 {
     match serial_of(tables, buffer) {
-        SerialFound::Serial(serial) => collect_serial(tables, buffer, work, serial),
-        SerialFound::Nothing => 0,
+        Some(serial) => collect_serial(tables, buffer, work, serial),
+        None => 0,
     }
 }
 
@@ -190,13 +181,6 @@ pub fn is_cut_after(buffer: &[u8], list: &[u64], link: Link, from: usize) -> boo
     false
 }
 
-// The place at an index of the list, 0 past its end.
-fn place_at(list: &[u64], index: usize) -> u64
-    ensures { result ≡ get_or list.now index 0 }
-{
-    if index < list.len() { list[index] } else { 0 }
-}
-
 // Whether the packet that goes on after a page comes from the page before: then it is known already whether it is cut.
 fn is_known(prior: Prior, link: Link) -> bool
     ensures { result ≡ is_known prior link }
@@ -236,7 +220,7 @@ pub fn listed_at(buffer: &[u8], list: &[u64], prior: Prior, known: bool, from: u
     ensures { ListedIs buffer.now list.now prior known from result }
 {
     let index = next_listed(list, from);
-    let place = place_at(list, index);
+    let place = list.get(index).copied().unwrap_or(0);
     let link = salvage_page::link_of(page_at(buffer, place));
     let cut = cut_by(buffer, list, prior, known, link, index);
     let form = salvage_page::form_of(prior, link, cut);

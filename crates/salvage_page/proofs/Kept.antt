@@ -1,11 +1,12 @@
 -- The lacing values and the body of a page without its removed pieces, one piece at a time. Assumes nothing.
+use Rattle.refusal.specs.declared.Refusal.{Refusal}
+use Rattle.std.specs.Prelude.{Result, Ok, Err}
 use Rattle.std.proofs.Common.{◌≡◌, ℕ, ◌-◌, ◌%◌, ◌^◌, ◌<◌, ◌≤◌, Bool, true, false, length, get_or, take, drop, refl, ◌∙◌, arith, length-drop, length-take, take_all}
 use Rattle.octets.specs.Pick.{pick}
 use Rattle.octets.specs.Octets.{Bytes}
 use Rattle.page_layout.specs.declared.PageHeader.{PageHeader}
 use Rattle.page_layout.specs.Places.{count_at, lacing_at}
 use Rattle.page_layout.specs.Page.{count_of, header_of, lacing_of}
-use Rattle.page_writer.specs.declared.PageWritten.{PageWritten}
 use Rattle.page_writer.specs.Writing.{WroteAny}
 use Rattle.stream.specs.Page.{Page, page_of}
 use Rattle.salvage_rules.specs.declared.Form.{Form}
@@ -73,7 +74,7 @@ module _ (f : Form) (n : ℕ) (p : Bytes) where
   tidied-body = refl
 
   -- what was written of the parts was written of it
-  pub wrote_as : (out : Bytes) {h : PageHeader} {l b : Bytes} {r : PageWritten} {end : Bytes}
+  pub wrote_as : (out : Bytes) {h : PageHeader} {l b : Bytes} {r : Result ℕ Refusal} {end : Bytes}
       → h ≡ renewed f.lead n (header_of p) → l ≡ (kept_of f (page_of p)).lacing → b ≡ (kept_of f (page_of p)).body
       → WroteAny h l b out r end → WroteTidied f n p out r end
   wrote_as out {h} {l} {b} {r} {end} eh el eb w =

@@ -1,4 +1,5 @@
 mod Values
+mod Leading
 mod Decided
 mod Sums
 mod Kept

@@ -3,7 +3,6 @@
 use Rattle.std.proofs.Common.{◌≡◌, ℕ, zero, suc, ◌+◌, ◌-◌, ◌<◌, ◌≤◌, Bool, true, false, not, eqb, ltb, [], ◌∷◌, length, get_or, take, drop, refl, ap, ◌∙◌, add-one, arith, drop-cons, ltb-false, ltb-true, le-ltb, lt-ltb, eq-eqb, ne_eqb}
 use Rattle.octets.specs.Octets.{Bytes}
 use Rattle.stream.specs.Page.{ends}
-use Rattle.stream.specs.Packets.{after_first}
 use Rattle.salvage_rules.specs.Tidy.{open_after, up_to_last}
 use Rattle.salvage_page.proofs.Decided.{or-true}
 
@@ -43,16 +42,6 @@ ends-here v l h = rw (lt-ltb v 255 h)
 pub ends-later : (v : ℕ) (l : Bytes) → 255 ≤ v → ends (v ∷ l) ≡ ends l
 unfolding ends
 ends-later v l h = rw (le-ltb v 255 h)
-
--- ---- the values after the first that ends a packet
-
-pub after-here : (v : ℕ) (l : Bytes) → v < 255 → after_first (v ∷ l) ≡ l
-unfolding after_first
-after-here v l h = rw (lt-ltb v 255 h)
-
-pub after-later : (v : ℕ) (l : Bytes) → 255 ≤ v → after_first (v ∷ l) ≡ after_first l
-unfolding after_first
-after-later v l h = rw (le-ltb v 255 h)
 
 -- ---- the values up to the last that does
 

@@ -1,10 +1,10 @@
 -- What is proved of a page written tidied, in addition to the contracts. Assumes nothing.
-use Rattle.std.specs.Prelude.{◌≡◌, ℕ, ◌≤◌, true, length}
+use Rattle.refusal.specs.declared.Refusal.{Refusal}
+use Rattle.std.specs.Prelude.{Result, Ok, Err, ◌≡◌, ℕ, ◌≤◌, true, length}
 use Rattle.octets.specs.Octets.{Bytes, Octets, copied}
-use Rattle.refusal.specs.Told.{gives}
+use Rattle.refusal.specs.Told.{gives, told}
 use Rattle.page_size.specs.Size.{is_one_page}
-use Rattle.page_writer.specs.declared.PageWritten.{PageWritten}
-use Rattle.page_writer.specs.Writing.{page_size, told_written}
+use Rattle.page_writer.specs.Writing.{page_size}
 use Rattle.stream.specs.Page.{page_of}
 use Rattle.salvage_rules.specs.declared.Form.{Form}
 use Rattle.salvage_rules.specs.Good.{Good}
@@ -17,14 +17,14 @@ abbrev pub kept_size : Form → Bytes → ℕ
 kept_size f p = page_size (kept_of f (page_of p)).lacing (kept_of f (page_of p)).body
 
 -- the answer r tells that length, and the output begins with the page tidied
-pub record Saved (f : Form) (n : ℕ) (p out : Bytes) (r : PageWritten) (end : Bytes) : Type 0 where
-  pub told : told_written r ≡ gives (kept_size f p)
+pub record Saved (f : Form) (n : ℕ) (p out : Bytes) (r : Result ℕ Refusal) (end : Bytes) : Type 0 where
+  pub told : told r ≡ gives (kept_size f p)
   pub output : end ≡ copied out 0 (page_out (tidied_of f n p))
 
 -- so it is for bytes that are one page, where the output has room
 abbrev pub PageSaved : Type 0
 PageSaved =
-    (f : Form) (n : ℕ) (p out : Bytes) (r : PageWritten) (end : Bytes) → Octets p → is_one_page p ≡ true
+    (f : Form) (n : ℕ) (p out : Bytes) (r : Result ℕ Refusal) (end : Bytes) → Octets p → is_one_page p ≡ true
     → kept_size f p ≤ length out → WroteTidied f n p out r end → Saved f n p out r end
 
 -- as many bytes as the page has are enough

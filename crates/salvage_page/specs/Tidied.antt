@@ -1,8 +1,8 @@
 -- One page tidied, by its bytes (RULES.md, 16; RFC 3533, 5 and 6). Assumes nothing.
-use Rattle.std.specs.Prelude.{◌≡◌, ℕ, ◌≤◌, Bool, length, take, drop}
+use Rattle.refusal.specs.declared.Refusal.{Refusal}
+use Rattle.std.specs.Prelude.{Result, Ok, Err, ◌≡◌, ℕ, ◌≤◌, Bool, length, take, drop}
 use Rattle.octets.specs.Pick.{pick}
 use Rattle.octets.specs.Octets.{Bytes, total}
-use Rattle.page_writer.specs.declared.PageWritten.{PageWritten}
 use Rattle.page_writer.specs.Writing.{WroteAny}
 use Rattle.stream.specs.Page.{page_of}
 use Rattle.stream.specs.Packets.{after_first}
@@ -50,6 +50,6 @@ abbrev pub tidied_of : Form → ℕ → Bytes → Tidied
 tidied_of f n p = tidied f n (record { place = 0; page = page_of p })
 
 -- the answer r, and the output from `out` at entry to `end` at exit: those of writing that page
-abbrev pub WroteTidied : Form → ℕ → Bytes → Bytes → PageWritten → Bytes → Type 0
+abbrev pub WroteTidied : Form → ℕ → Bytes → Bytes → Result ℕ Refusal → Bytes → Type 0
 WroteTidied f n p out r end =
     WroteAny (tidied_of f n p).page.header (tidied_of f n p).page.lacing (tidied_of f n p).page.body out r end

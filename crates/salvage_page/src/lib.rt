@@ -11,7 +11,7 @@ ghost use Rattle.salvage_rules.specs.Links.{link_of, follows_link, no_prior, pri
 ghost use Rattle.salvage_page.specs.Tidied.{CutBytes, WroteTidied};
 
 use page_layout::{FLAGS_AT, PageHeader, SEQUENCE_AT};
-use page_writer::PageWritten;
+use refusal::Refusal;
 use salvage_rules::{Form, Link, Prior};
 
 mod pieces;
@@ -210,8 +210,8 @@ pub fn last_cut(page: &[u8]) -> usize
 // The page tidied, as number `number` of the list, written to the start of `out` with its checksum made (RULES.md, 16;
 // RFC 3533, 6). Bytes that are one page by 3 are not refused where `out` has as many bytes. 23: the lacing values do not sum
 // to the length of the body. 22: not 23, and `out` is shorter than the tidied page. On refusal nothing is written.
-// Example: a page of 31 bytes that loses none of its pieces gives `PageWritten::Bytes(31)`.
-pub fn write_tidied(page: &[u8], form: Form, number: u32, out: &mut [u8]) -> PageWritten
+// Example: a page of 31 bytes that loses none of its pieces gives `Ok(31)`.
+pub fn write_tidied(page: &[u8], form: Form, number: u32, out: &mut [u8]) -> Result<usize, Refusal>
     ensures { WroteTidied form number page.now out.old result out.new }
 {
     let h = header_kept(page, form, number);

@@ -10,14 +10,10 @@ ghost use Rattle.salvage_page.specs.Tidied.{CutBytes};
 fn lead_values(lacing: &[u8]) -> usize
     ensures { LeadValues lacing.now result }
 {
-    let mut i = 0;
-    while i < lacing.len() {
-        if lacing[i] < 255 {
-            return i + 1;
-        }
-        i += 1;
+    match lacing.iter().position(|v| *v < 255) {
+        Some(i) => i + 1,
+        None => lacing.len(),
     }
-    i
 }
 
 // How many values there are up to the last that ends a packet.

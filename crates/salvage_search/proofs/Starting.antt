@@ -19,6 +19,10 @@ use Rattle.page_size.specs.Extent.{ends_at, unknown, no_start, extent_in, page_e
 use Rattle.page_size.proofs.Shapes.{no_capture}
 use Rattle.page_end.specs.End.{end_in, end_at}
 use Rattle.page_end.proofs.Ends.{end-inside}
+use Rattle.std.specs.Prelude.{Result, Ok, Err, is_ok}
+use Rattle.refusal.specs.declared.Refusal.{Refusal}
+use Rattle.refusal.specs.Told.{told}
+use Rattle.page_layout.specs.declared.PageHeader.{PageHeader}
 use Rattle.page_reader.specs.Reading.{read_page}
 use Rattle.page_reader.proofs.Reading.{not_one_page}
 use Rattle.salvage_search.specs.Search.{is_good, good_to, starts_page}
@@ -29,6 +33,11 @@ unfolding has_capture begins
 other_byte zero s h d = absurd (omega arith)
 other_byte (suc e) [] h d = refl
 other_byte (suc e) (x ∷ s) h d = rw (ne_eqb 0x4f x (λ q. d (sym q)))
+
+-- the code's answer, and what is told
+pub good_told : (r : Result PageHeader Refusal) → is_ok r ≡ is_good (told r)
+good_told (Ok h) = refl
+good_told (Err why) = refl
 
 module _ (crc : Bytes → ℕ) (s : Bytes) where
   pub starts-cut : end_at s 0 ≡ none → starts_page crc s ≡ false

@@ -7,9 +7,6 @@ ghost use Rattle.page_crc_tables.specs.Table.{entry_in};
 ghost use Rattle.page_crc.specs.Sliced.{page_sliced};
 ghost use Rattle.salvage_search.specs.Search.{starts_page, next_page};
 
-use page_end::End;
-use page_reader::PageRead;
-
 // The first byte of the capture pattern "OggS": a place that has another byte costs one comparison.
 const FIRST: u8 = b'O';
 
@@ -18,11 +15,8 @@ fn starts_page(tables: &[u32; 4096], s: &[u8]) -> bool
     ensures { result ≡ starts_page (page_sliced (entry_in tables.now)) s.now }
 {
     match page_end::end_at(s, 0) {
-        End::Cut => false,
-        End::At(end) => match page_reader::read_page_with(tables, &s[..end]) {
-            PageRead::Page(_) => true,
-            PageRead::Refused(_) => false,
-        },
+        None => false,
+        Some(end) => page_reader::read_page_with(tables, &s[..end]).is_ok(),
     }
 }
 

@@ -1,6 +1,6 @@
 -- Starting, opening part way and feeding: what each tells, the next reader, and the end contents of the carry buffer and of the
 -- four lists, for any reader, bytes and lent memory (RULES.md, 7). Assumes nothing.
-use Rattle.std.specs.Prelude.{ℕ, ◌+◌, ◌-◌, ◌%◌, ◌^◌, ◌≡◌, Bool, not, List, [], ◌∷◌, ◌++◌, map, leb, length, take, drop}
+use Rattle.std.specs.Prelude.{Result, Ok, Err, ℕ, ◌+◌, ◌-◌, ◌%◌, ◌^◌, ◌≡◌, Bool, not, List, [], ◌∷◌, ◌++◌, map, leb, length, take, drop}
 use Rattle.std.proofs.Math.Option.{Option, none, some}
 use Rattle.octets.specs.Pick.{pick}
 use Rattle.octets.specs.Octets.{Bytes, copied}
@@ -22,7 +22,6 @@ use Rattle.stream.specs.declared.Core.{Core}
 use Rattle.stream.specs.declared.Tally.{Tally}
 use Rattle.stream.specs.declared.Counts.{Counts}
 use Rattle.stream.specs.declared.PageFed.{PageFed}
-use Rattle.stream.specs.declared.PageFed.TheVariants.{Accepted, Refused}
 use Rattle.stream.specs.Lent.{Lent, lent_of, with_carry, is_short}
 use Rattle.stream.specs.Page.{Page, page_of, last, granule_of, whole, rest}
 use Rattle.packet_reader.specs.declared.Measure.{Measure}
@@ -285,6 +284,6 @@ abbrev pub Feeds : Readings → Reader → Bytes → Lent → Told Taken → Len
 Feeds R r page before t after = FedIs (feed R r before page) t after
 
 -- what the code's answer tells
-abbrev pub told_page : PageFed → Told Taken
-told_page (Accepted core tally counts) = gives (record { reader = reader_of core tally; counts = counts })
-told_page (Refused why) = refuses (number_of why)
+abbrev pub told_page : Result PageFed Refusal → Told Taken
+told_page (Ok p) = gives (record { reader = reader_of p.core p.tally; counts = p.counts })
+told_page (Err why) = refuses (number_of why)

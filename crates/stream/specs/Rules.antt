@@ -6,9 +6,7 @@ use Rattle.std.proofs.Math.Option.{Option}
 use Rattle.octets.specs.Pick.{pick}
 use Rattle.octets.specs.Octets.{Bytes}
 use Rattle.refusal.specs.declared.Refusal.{Refusal}
-use Rattle.refusal.specs.declared.Refusal.TheVariants.{AfterEnd, NotOnePage, WrongChecksum, OtherSerial, OutOfSequence}
-use Rattle.refusal.specs.declared.Refusal.TheVariants.{WrongFlags, WrongContinued, PacketTooLong, HeaderShape, WrongGranule}
-use Rattle.refusal.specs.declared.Refusal.TheVariants.{BadHead, BadMapping, BadTags, IllegalPacket, MixedLengths}
+use Rattle.refusal.specs.declared.Refusal.TheVariants.{AfterEnd, NotOnePage, WrongChecksum, OtherSerial, OutOfSequence, WrongFlags, WrongContinued, PacketTooLong, HeaderShape, WrongGranule, BadHead, BadMapping, BadTags, IllegalPacket, MixedLengths}
 use Rattle.refusal.specs.Checks.{Check, ◌when◌, first_of}
 use Rattle.granule.specs.declared.Position.{Position}
 use Rattle.granule.specs.declared.Position.TheVariants.{At}

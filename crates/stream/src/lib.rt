@@ -67,12 +67,12 @@ pub struct Counts {
 }
 
 // What feeding a page answers.
+// The next core and tally, and the page's own record.
 #[derive(Clone, Copy)]
-pub enum PageFed {
-    // the next core and tally, and the page's own record
-    Accepted(Core, Tally, Counts),
-    // 1 to 19
-    Refused(Refusal),
+pub struct PageFed {
+    pub core: Core,
+    pub tally: Tally,
+    pub counts: Counts,
 }
 
 // What a page is of one packet, by its lacing values.

@@ -1,8 +1,8 @@
 // Reading standard input, and feeding its pages up to the comment header.
 use super::{Streams, fail};
 use limits::LIST_MAX;
-use page_end::End;
 use reader::{Fed, Reader};
+use refusal::Refusal;
 use std::io::{ErrorKind, Read};
 
 #[derive(Clone, Copy)]
@@ -102,10 +102,10 @@ fn accepted(p: Progress, next: Reader, body: &[u8], header: &mut [u8]) -> Progre
     }
 }
 
-fn fed_page(p: Progress, fed: Fed, body: &[u8], header: &mut [u8]) -> Progress {
+fn fed_page(p: Progress, fed: Result<Fed, Refusal>, body: &[u8], header: &mut [u8]) -> Progress {
     match fed {
-        Fed::Accepted(next, _) => accepted(p, next, body, header),
-        Fed::Refused(why) => stopped(p, Stage::Refused(refusal::number(why))),
+        Ok(fed) => accepted(p, fed.reader, body, header),
+        Err(why) => stopped(p, Stage::Refused(refusal::number(why))),
     }
 }
 
@@ -168,7 +168,7 @@ fn turn(
 ) -> State {
     let p = s.progress;
     match page_end::end_at(octets::part_of(buffer, 0, s.end), s.start) {
-        End::At(last) => {
+        Some(last) => {
             let size = std::num::wrapping_sub_usize(last, s.start);
             State {
                 progress: feed_page(p, octets::part_of(buffer, s.start, size), carry, header),
@@ -176,7 +176,7 @@ fn turn(
                 end: s.end,
             }
         }
-        End::Cut => {
+        None => {
             let n = buffers::move_down(buffer, s.start, s.end);
             read_turn(streams, p, n, buffer)
         }
@@ -185,13 +185,7 @@ fn turn(
 
 fn goes_on(p: Progress) -> bool {
     let stage = p.stage;
-    match stage {
-        Stage::Feeding => true,
-        Stage::Complete(_) => false,
-        Stage::Refused(_) => false,
-        Stage::Cut => false,
-        Stage::Unread => false,
-    }
+    matches!(stage, Stage::Feeding)
 }
 
 // Nothing is fed yet, and no header is known.

@@ -30,31 +30,28 @@ pub(crate) fn fail(streams: Streams, what: &str, why: Error) {
     let _said = writeln!(errors, "tags: {what}: {why}");
 }
 
-// Writes the first n bytes. A failure is said on standard error.
-pub(crate) fn write(streams: Streams, out: &[u8], n: usize) -> bool {
+// Writes the first n bytes.
+pub(crate) fn write(streams: Streams, out: &[u8], n: usize) -> Result<(), Error> {
     let mut output = streams.output;
-    match output.write_all(octets::part_of(out, 0, n)) {
-        Ok(_) => true,
-        Err(why) => {
-            fail(streams, "cannot write", why);
-            false
-        }
-    }
+    output.write_all(octets::part_of(out, 0, n))
 }
 
-fn tell(streams: Streams, p: Progress, carry: &[u8], header: &[u8]) {
+fn tell(streams: Streams, p: Progress, carry: &[u8], header: &[u8]) -> Result<(), Error> {
     let stage = p.stage;
     match stage {
         Stage::Feeding => say(streams, "tags: the input does not end\n"),
-        Stage::Complete(size) => listing::list(
-            streams,
-            octets::part_of(header, 0, p.header_size),
-            octets::part_of(carry, 0, size),
-        ),
-        Stage::Refused(number) => listing::list_refused(streams, number, p.pages),
+        Stage::Complete(size) => {
+            return listing::list(
+                streams,
+                octets::part_of(header, 0, p.header_size),
+                octets::part_of(carry, 0, size),
+            );
+        }
+        Stage::Refused(number) => return listing::list_refused(streams, number, p.pages),
         Stage::Cut => say(streams, "tags: the input ends before the comment header\n"),
         Stage::Unread => {}
     }
+    Ok(())
 }
 
 // The input buffer has room for a page, of 65,307 bytes at most, and for a read as long after it. The other two have room for
@@ -69,5 +66,7 @@ fn main(rt: HostRuntime) {
     let mut carry = [0u8; PACKET_MAX];
     let mut header = [0u8; PACKET_MAX];
     let p = feeding::run(streams, &mut buffer, &mut carry, &mut header);
-    tell(streams, p, &carry, &header);
+    if let Err(why) = tell(streams, p, &carry, &header) {
+        fail(streams, "cannot write", why);
+    }
 }

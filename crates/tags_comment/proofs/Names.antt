@@ -4,6 +4,10 @@ use mathlib.Core.Bool.{Bool, true, false, ◌&&◌}
 use mathlib.Core.List.{[], ◌∷◌}
 use Prim.Native.Nat.{ℕ, suc, ◌+◌, ◌≤◌, ◌<◌}
 use native.Mathlib.Numerals.{add-one}
+use native.Mathlib.Omega.{arith}
+use Rattle.std.proofs.lemmas.Bool.Decides.{nat_tests}
+use Rattle.std.specs.Char.{to_ascii_uppercase}
+use Rattle.std.specs.List.{list_all, zip}
 use borrow.Author.Tests.{eq-eqb, ne_eqb, lt-ltb, le-ltb}
 use lib.Dec.{eqb}
 use lib.ListN.{length, get_or, take, drop, drop_of_length-le}
@@ -40,14 +44,17 @@ other_length (a ∷ n) (b ∷ m) h = rw (other_length n m (λ e. h (ap suc e))) 
     either true = refl
     either false = refl
 
-module _ (n m : Bytes) (i : ℕ) (in-n : i < length n) (in-m : i < length m) where
-  pub other_letter : eqb (upper (get_or n i 0)) (upper (get_or m i 0)) ≡ false → same_name (drop i n) (drop i m) ≡ false
-  unfolding same_name
-  other_letter e = rw (drop-cons n i 0 in-n, drop-cons m i 0 in-m, e)
+-- the library's capital letter
+pub raised : (b : ℕ) → to_ascii_uppercase b ≡ upper b
+raised b = grind (arith, nat_tests)
 
-  pub same_letter : eqb (upper (get_or n i 0)) (upper (get_or m i 0)) ≡ true → same_name (drop (i + 1) n) (drop (i + 1) m) ≡ same_name (drop i n) (drop i m)
-  unfolding same_name
-  same_letter e = rw (add-one i, drop-cons n i 0 in-n, drop-cons m i 0 in-m, e)
+-- a test of each two letters, in the words of the definition
+pub letters : (n m : Bytes) → length n ≡ length m → list_all (λ (p : ℕ × ℕ). eqb (upper p.0) (upper p.1)) (zip n m) ≡ same_name n m
+unfolding same_name
+letters [] [] e = refl
+letters [] (b ∷ m) e = absurd (omega arith)
+letters (a ∷ n) [] e = absurd (omega arith)
+letters (a ∷ n) (b ∷ m) e = ap (λ (t : Bool). eqb (upper a) (upper b) && t) (letters n m (omega arith))
 
 -- ---- comments, with the place p of the first "="
 

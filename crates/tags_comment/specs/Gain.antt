@@ -5,10 +5,7 @@ use Rattle.octets.specs.Pick.{pick}
 use Rattle.octets.specs.Octets.{Bytes}
 use Rattle.refusal.specs.declared.Refusal.TheVariants.{BadGain}
 use Rattle.refusal.specs.Checks.{Check, ◌when◌, first_of}
-use Rattle.refusal.specs.Told.{Told, gives, refuses, decided}
-use Rattle.refusal.specs.Numbers.{number_of}
-use Rattle.tags_comment.specs.declared.GainRead.{GainRead}
-use Rattle.tags_comment.specs.declared.GainRead.TheVariants.{Gain, Refused}
+use Rattle.refusal.specs.Told.{Told, decided}
 use Rattle.tags_comment.specs.Names.{has_name, value_of, all_within}
 
 abbrev pub is_minus : Bytes → Bool
@@ -63,8 +60,3 @@ gain_checks c = BadGain when not (has_gain c) ∷ []
 
 unfoldable pub comment_gain : Bytes → Told ℤ
 comment_gain c = decided (first_of (gain_checks c)) (gain_of (value_of c))
-
--- what the code's answer tells
-abbrev pub told_gain : GainRead → Told ℤ
-told_gain (Gain g) = gives g
-told_gain (Refused r) = refuses (number_of r)

@@ -1,52 +1,33 @@
 // One comment of a comment header (RFC 7845, 5.2): its name, and the gain in its value.
 #![tactic(auto)]
 
+ghost use Rattle.refusal.specs.Told.{told};
 ghost use Rattle.std.specs.Prelude.{◌≡◌, true};
 ghost use Rattle.std.specs.Int.{w16};
 ghost use Rattle.std.proofs.Common.{to_z};
 ghost use Rattle.tags_comment.specs.Names.{equals_place, all_within, right_comment, upper, same_name, is_named};
 ghost use Rattle.tags_comment.specs.Gain.{is_minus, digits_of, FewDigits, decimal, most_of};
-ghost use Rattle.tags_comment.specs.Gain.{right_gain, gain_of, comment_gain, told_gain};
+ghost use Rattle.tags_comment.specs.Gain.{right_gain, gain_of, comment_gain};
 
 use refusal::Refusal;
-
-#[derive(Clone, Copy)]
-pub enum GainRead {
-    Gain(i16),
-    // 21
-    Refused(Refusal),
-}
 
 // The place of the first "=", or the comment's length.
 fn equals_place(c: &[u8]) -> usize
     ensures { result ≡ equals_place c.now }
 {
-    let mut i = 0;
-    while i < c.len() {
-        if c[i] == 0x3d {
+    for (i, b) in c.iter().enumerate() {
+        if *b == 0x3d {
             return i;
         }
-        i += 1;
     }
-    i
+    c.len()
 }
 
 // Whether each byte lies in low to high.
 fn all_within(low: u8, high: u8, s: &[u8]) -> bool
     ensures { result ≡ all_within low high s.now }
 {
-    let mut i = 0;
-    while i < s.len() {
-        let b = s[i];
-        if b < low {
-            return false;
-        }
-        if b > high {
-            return false;
-        }
-        i += 1;
-    }
-    true
+    s.iter().all(|b| (low <= *b) & (*b <= high))
 }
 
 // Whether a packet may hold this comment (RULES.md, 5): it is UTF-8, and the bytes of its name, if it has one, lie in 0x20 to
@@ -65,16 +46,11 @@ pub fn right_comment(c: &[u8]) -> bool
 }
 
 // A letter as a capital.
+#[tactic(auto, using(crate::proofs::Names::raised))]
 fn upper(b: u8) -> u8
     ensures { result ≡ upper b }
 {
-    if b < 0x61 {
-        return b;
-    }
-    if b > 0x7a {
-        return b;
-    }
-    b - 32
+    b.to_ascii_uppercase()
 }
 
 // Whether two names are equal without regard to ASCII case.
@@ -84,14 +60,7 @@ fn same_name(n: &[u8], m: &[u8]) -> bool
     if n.len() != m.len() {
         return false;
     }
-    let mut i = 0;
-    while i < n.len() {
-        if upper(n[i]) != upper(m[i]) {
-            return false;
-        }
-        i += 1;
-    }
-    true
+    n.iter().zip(m.iter()).all(|(a, b)| upper(*a) == upper(*b))
 }
 
 // Whether the comment has this name, without regard to ASCII case. Example: "title=a" has the name "TITLE".
@@ -131,11 +100,9 @@ fn decimal(d: &[u8]) -> u32
     ensures { result ≡ decimal 0 d.now }
 {
     let mut x: u32 = 0;
-    let mut i = 0;
-    while i < d.len() {
-        let digit = d[i] - 0x30;
+    for b in d {
+        let digit = *b - 0x30;
         x = x * 10 + digit as u32;
-        i += 1;
     }
     x
 }
@@ -151,7 +118,8 @@ fn most_of(t: &[u8]) -> u32
 fn right_gain(t: &[u8]) -> bool
     ensures { result ≡ right_gain t.now }
 {
-    if t.len() > 6 {
+    let long = t.len() > 6;
+    if long {
         return false;
     }
     let d = digits_of(t);
@@ -179,17 +147,17 @@ fn gain_bits(t: &[u8]) -> u16
 
 // The gain that the comment's value is, whatever its name. 21: there is no "=", or what follows the first one is not an
 // optional sign and digits, has no digit, has more than 6 characters, or is not from -32768 to 32767.
-// Example: `comment_gain(b"R128_TRACK_GAIN=-573")` gives `GainRead::Gain(-573)`.
-pub fn comment_gain(c: &[u8]) -> GainRead
-    ensures { told_gain result ≡ comment_gain c.now }
+// Example: `comment_gain(b"R128_TRACK_GAIN=-573")` gives `Ok(-573)`.
+pub fn comment_gain(c: &[u8]) -> Result<i16, Refusal>
+    ensures { told result ≡ comment_gain c.now }
 {
     let place = equals_place(c);
     if place >= c.len() {
-        return GainRead::Refused(Refusal::BadGain);
+        return Err(Refusal::BadGain);
     }
     let value = octets::part_of(c, place + 1, c.len());
     if !right_gain(value) {
-        return GainRead::Refused(Refusal::BadGain);
+        return Err(Refusal::BadGain);
     }
-    GainRead::Gain(number_signed::signed16(gain_bits(value)))
+    Ok(number_signed::signed16(gain_bits(value)))
 }

@@ -1,10 +1,11 @@
 // Where the parts of a comment header lie (RFC 7845, 5.2): each text after its length, by places in the packet.
 #![tactic(auto)]
 
+ghost use Rattle.refusal.specs.Told.{told};
 ghost use Rattle.std.specs.Prelude.{◌≡◌};
 ghost use Rattle.octets.specs.Numbers.{number};
 ghost use Rattle.tags_layout.specs.Layout.{vendor_place, fits_at, count_of, first_place};
-ghost use Rattle.tags_layout.specs.Finding.{find_text, told_part};
+ghost use Rattle.tags_layout.specs.Finding.{find_text};
 
 use refusal::Refusal;
 
@@ -27,13 +28,6 @@ pub struct Part {
     pub size: usize,
 }
 
-#[derive(Clone, Copy)]
-pub enum PartRead {
-    Found(Part),
-    // 14, or 20 of a comment
-    Refused(Refusal),
-}
-
 // Whether the text whose length is at this place lies inside the packet, with the four bytes of that length (RULES.md, 5).
 // Example: `fits_at(&[1, 0, 0, 0, 0x61], 0)` is true, and `fits_at(&[2, 0, 0, 0, 0x61], 0)` is false.
 pub fn fits_at(b: &[u8], at: usize) -> bool
@@ -51,14 +45,14 @@ pub fn fits_at(b: &[u8], at: usize) -> bool
 // Where the text lies whose length is at this place: a listing goes from the end of each comment to the next. 14: the
 // length, or the text, passes the end (RULES.md, 5).
 // Example: `find_text(&[1, 0, 0, 0, 0x61], 0)` gives the start 4 and the size 1.
-pub fn find_text(b: &[u8], at: usize) -> PartRead
-    ensures { told_part result ≡ find_text b.now at }
+pub fn find_text(b: &[u8], at: usize) -> Result<Part, Refusal>
+    ensures { told result ≡ find_text b.now at }
 {
     if !fits_at(b, at) {
-        return PartRead::Refused(Refusal::BadTags);
+        return Err(Refusal::BadTags);
     }
     let size = number_reader::number32(b, at) as usize;
-    PartRead::Found(Part {
+    Ok(Part {
         start: at + 4,
         size,
     })

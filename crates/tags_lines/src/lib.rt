@@ -6,8 +6,6 @@ ghost use Rattle.std.specs.Prelude.{◌≡◌, ◌≤◌, length};
 ghost use Rattle.text_put.specs.Writing.{Put};
 ghost use Rattle.tags_lines.specs.Lines.{text_line, is_gain, end_most, EndLaid, comment_line};
 
-use tags_comment::GainRead;
-
 // The most bytes that end the line of a comment.
 const END_MAX: usize = 35;
 
@@ -47,8 +45,8 @@ fn lay_end(out: &mut [u8], c: &[u8]) -> usize
         return text_put::put_bytes(out, 0, b"\n");
     }
     match tags_comment::comment_gain(c) {
-        GainRead::Gain(g) => text_gain::put_decibels(out, 0, g),
-        GainRead::Refused(_) => text_put::put_bytes(out, 0, b"\n"),
+        Ok(g) => text_gain::put_decibels(out, 0, g),
+        Err(_) => text_put::put_bytes(out, 0, b"\n"),
     }
 }
 

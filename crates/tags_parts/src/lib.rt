@@ -2,21 +2,19 @@
 #![tactic(auto)]
 
 ghost use Rattle.std.specs.Prelude.{◌≡◌};
-ghost use Rattle.refusal.specs.Told.{number_in};
-ghost use Rattle.tags_comment.specs.Gain.{told_gain};
-ghost use Rattle.tags_layout.specs.Finding.{told_part};
+ghost use Rattle.refusal.specs.Told.{number_in, told};
 ghost use Rattle.tags_reader.specs.Reading.{find_vendor, find_comment, part_in, read_gain};
 
-use tags_comment::GainRead;
-use tags_layout::PartRead;
+use refusal::Refusal;
+use tags_layout::Part;
 
 // The part that was found, or an empty one.
-fn part_in(b: &[u8], found: PartRead) -> &[u8]
-    ensures { result.now ≡ part_in b.now (told_part found) }
+fn part_in(b: &[u8], found: Result<Part, Refusal>) -> &[u8]
+    ensures { result.now ≡ part_in b.now (told found) }
 {
     match found {
-        PartRead::Found(p) => octets::part_of(b, p.start, p.size),
-        PartRead::Refused(_) => octets::part_of(b, 0, 0),
+        Ok(p) => octets::part_of(b, p.start, p.size),
+        Err(_) => octets::part_of(b, 0, 0),
     }
 }
 
@@ -43,18 +41,16 @@ pub fn comment_number(b: &[u8], i: usize) -> u8
     ensures { result ≡ number_in (find_comment b.now i) }
 {
     match tags_reader::find_comment(b, i) {
-        PartRead::Found(_) => 0,
-        PartRead::Refused(why) => refusal::number(why),
+        Ok(_) => 0,
+        Err(why) => refusal::number(why),
     }
 }
 
 // The gain in comment i, whatever its name. 14 and 20: as `comment_number` tells. 21: neither, and its value is no gain.
-// Example: where comment 0 is "R128_TRACK_GAIN=-573", `gain(b, 0)` gives `GainRead::Gain(-573)`.
-pub fn gain(b: &[u8], i: usize) -> GainRead
-    ensures { told_gain result ≡ read_gain b.now i }
+// Example: where comment 0 is "R128_TRACK_GAIN=-573", `gain(b, 0)` gives `Ok(-573)`.
+pub fn gain(b: &[u8], i: usize) -> Result<i16, Refusal>
+    ensures { told result ≡ read_gain b.now i }
 {
-    match tags_reader::find_comment(b, i) {
-        PartRead::Found(p) => tags_comment::comment_gain(octets::part_of(b, p.start, p.size)),
-        PartRead::Refused(why) => GainRead::Refused(why),
-    }
+    let p = tags_reader::find_comment(b, i)?;
+    tags_comment::comment_gain(octets::part_of(b, p.start, p.size))
 }

@@ -1,4 +1,6 @@
 -- Laws of what is read and found in a packet. Assumes nothing.
+use Rattle.std.specs.Prelude.{Option as CodeOption, None}
+use Rattle.std.specs.Option.{is_some}
 use mathlib.Core.Path.{◌≡◌, refl, sym, ap, ◌∙◌}
 use mathlib.Core.Bool.{Bool, true, false, ◌&&◌}
 use mathlib.Core.Option.{Option, none, some}
@@ -23,7 +25,8 @@ use Rattle.tags_layout.specs.Finding.{find_text}
 use Rattle.tags_reader.specs.declared.Walk.{Walk}
 use Rattle.tags_reader.specs.Right.{right_tags, is_tags}
 use Rattle.tags_reader.specs.Reading.{read_tags, comment_count, find_vendor, find_checks, comment_part, find_comment, comment_of, read_gain}
-use Rattle.tags_reader.specs.Code.{walked, begun, is_right, place_in}
+use Rattle.tags_reader.specs.Code.{walked, begun, place_in}
+use Rattle.tags_reader.proofs.Walking.{walked-wrong}
 use Rattle.tags_reader.proofs.Checking.{walk_is_tags, walk_plus, still_right, text-fits, start-place}
 
 -- ---- a packet that is no comment header
@@ -70,25 +73,34 @@ module _ (b : Bytes) (right : is_tags b ≡ true) where
 
 -- ---- comment i: a walk to it, and one to the end
 
-module _ (b : Bytes) (n k : ℕ) (start here end : Walk) (count : n ≡ count_of b) (at-start : start ≡ begun b) (at_here : here ≡ walked b k start)
+module _ (b : Bytes) (n k : ℕ) (start here end : CodeOption Walk) (count : n ≡ count_of b) (at-start : start ≡ begun b) (at_here : here ≡ walked b k start)
     (at_end_lem : end ≡ walked b (n - k) here) where
-  pub end_decides : k ≤ n → is_right end ≡ is_tags b
+  pub end_decides : k ≤ n → is_some end ≡ is_tags b
   end_decides h =
       let whole : k + (n - k) ≡ count_of b = omega (arith, count) in
       let all : end ≡ walked b (count_of b) (begun b) =
       (at_end_lem ∙ ap (walked b (n - k)) at_here ∙ sym (walk_plus b k (n - k) start) ∙ ap (λ (m : ℕ). walked b m start) whole ∙ ap (walked b (count_of b)) at-start) in
-      ap (λ (w : Walk). is_right w) all ∙ walk_is_tags b
+      ap (λ (w : CodeOption Walk). is_some w) all ∙ walk_is_tags b
 
-  pub comment-found : k < n → is_tags b ≡ true → is_right end ≡ true → find_text b (place_in here) ≡ find_comment b k
+  pub comment-found : k < n → is_tags b ≡ true → is_some end ≡ true → find_text b (place_in here) ≡ find_comment b k
   unfolding find_text find_comment first_of
   comment-found h right goes =
       let more : n - k ≡ suc (n - k - 1) = omega arith in
-      let to_end : is_right (walked b (suc (n - k - 1)) here) ≡ true = rw (at_end_lem, more) at goes in
+      let to_end : is_some (walked b (suc (n - k - 1)) here) ≡ true = rw (at_end_lem, more) at goes in
       let fits : fits_at b (place_in here) ≡ true = text-fits b (n - k - 1) here to_end in
       let place : place_in here ≡ place_after b k (first_place b) =
       (ap place_in (at_here ∙ ap (walked b k) at-start)
-      ∙ start-place b k (sym (ap (λ (w : Walk). is_right w) (at_here ∙ ap (walked b k) at-start)) ∙ still_right b (suc (n - k - 1)) here to_end)) in
+      ∙ start-place b k (sym (ap (λ (w : CodeOption Walk). is_some w) (at_here ∙ ap (walked b k) at-start)) ∙ still_right b (suc (n - k - 1)) here to_end)) in
       rw (right, fits, lt-leb (count_of b) k (omega (arith, count))) (ap (λ (at : ℕ). gives (part_at b at)) place)
+
+-- no walk, up to the first comment or to comment k
+module _ (b : Bytes) where
+  pub none-begun : None ≡ begun b → false ≡ is_tags b
+  unfolding walked
+  none-begun e = end_decides b (count_of b) 0 None None None refl e refl (sym (walked-wrong b (count_of b - 0))) (omega arith)
+
+  pub none-there : (n k : ℕ) (start : CodeOption Walk) → n ≡ count_of b → start ≡ begun b → None ≡ walked b k start → k ≤ n → false ≡ is_tags b
+  none-there n k start count s h l = end_decides b n k start None None count s h (sym (walked-wrong b (n - k))) l
 
 -- ---- the gain in it
 

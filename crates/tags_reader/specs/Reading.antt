@@ -5,13 +5,10 @@ use Rattle.octets.specs.Octets.{Bytes}
 use Rattle.refusal.specs.declared.Refusal.TheVariants.{BadTags, NoSuchPart}
 use Rattle.refusal.specs.Checks.{Check, ◌when◌, first_of}
 use Rattle.refusal.specs.Told.{Told, gives, refuses, decided}
-use Rattle.refusal.specs.Numbers.{number_of}
 use Rattle.tags_comment.specs.Names.{value_of}
 use Rattle.tags_comment.specs.Gain.{gain_of, gain_checks}
 use Rattle.tags_layout.specs.declared.Part.{Part}
 use Rattle.tags_layout.specs.Layout.{Tags, part_at, bytes_of, vendor_part, count_of, comment_place, tags_of}
-use Rattle.tags_reader.specs.declared.TagsRead.{TagsRead}
-use Rattle.tags_reader.specs.declared.TagsRead.TheVariants.{Count, Refused}
 use Rattle.tags_reader.specs.Right.{is_tags}
 
 abbrev pub read_checks : Bytes → List Check
@@ -50,9 +47,3 @@ comment_of b i = bytes_of b (comment_part b i)
 
 unfoldable pub read_gain : Bytes → ℕ → Told ℤ
 read_gain b i = decided (first_of (find_checks b i ++ gain_checks (comment_of b i))) (gain_of (value_of (comment_of b i)))
-
--- ---- what the code's answer tells
-
-abbrev pub told_count : TagsRead → Told ℕ
-told_count (Count n) = gives n
-told_count (Refused r) = refuses (number_of r)

@@ -1,139 +1,108 @@
 // The comment header of an Ogg Opus stream (RFC 7845, 5.2): checking it, and where its vendor and each comment lie.
 #![tactic(auto)]
 
-ghost use Rattle.std.specs.Prelude.{◌≡◌};
-ghost use Rattle.refusal.specs.Told.{retold};
-ghost use Rattle.tags_layout.specs.Finding.{told_part};
+ghost use Rattle.std.specs.Prelude.{◌≡◌, Some};
+ghost use Rattle.refusal.specs.Told.{retold, told};
 ghost use Rattle.tags_reader.specs.Right.{is_tags};
-ghost use Rattle.tags_reader.specs.Reading.{read_tags, comment_count, find_vendor, find_comment, told_count};
-ghost use Rattle.tags_reader.specs.Code.{stepped, walked, begun, is_right, place_in};
+ghost use Rattle.tags_reader.specs.Reading.{read_tags, comment_count, find_vendor, find_comment};
+ghost use Rattle.tags_reader.specs.Code.{stepped, walked, begun};
 
 use refusal::Refusal;
-use tags_layout::{PartRead, SIGNATURE, VENDOR_PLACE, VENDOR_START};
-use tags_rules::Gains;
+use tags_layout::{Part, SIGNATURE, VENDOR_PLACE, VENDOR_START};
 
+// How far a walk over the comments has come: the place of the next comment, and whether the gains of the track and of the
+// album were seen.
 #[derive(Clone, Copy)]
-pub enum TagsRead {
-    // how many comments the packet has
-    Count(usize),
-    // 14
-    Refused(Refusal),
+struct Walk {
+    at: usize,
+    track: bool,
+    album: bool,
 }
 
-// A walk over the comments.
-#[derive(Clone, Copy)]
-enum Walk {
-    // the packet is no comment header
-    Wrong,
-    // the place of the next comment, and whether the gains of the track and of the album were seen
-    At(usize, bool, bool),
-}
-
-// One comment on from this place.
-fn step(b: &[u8], at: usize, track: bool, album: bool) -> Walk
-    ensures { result ≡ stepped b.now (Walk.At at track album) }
+// One comment on.
+fn step(b: &[u8], walk: Walk) -> Option<Walk>
+    ensures { result ≡ stepped b.now (Some walk) }
 {
-    if !tags_layout::fits_at(b, at) {
-        return Walk::Wrong;
+    if !tags_layout::fits_at(b, walk.at) {
+        return None;
     }
-    let size = number_reader::number32(b, at) as usize;
-    let start = at + 4;
+    let size = number_reader::number32(b, walk.at) as usize;
+    let start = walk.at + 4;
     let next = start + size;
-    let Gains::Seen(t, a) = tags_rules::judge(octets::part_of(b, start, size), track, album) else {
-        return Walk::Wrong;
-    };
-    Walk::At(next, t, a)
+    let gains = tags_rules::judge(octets::part_of(b, start, size), walk.track, walk.album)?;
+    Some(Walk {
+        at: next,
+        track: gains.track,
+        album: gains.album,
+    })
 }
 
 // n comments on.
-fn walk_by(b: &[u8], from: Walk, n: usize) -> Walk
-    ensures { result ≡ walked b.now n from }
+fn walk_by(b: &[u8], from: Walk, n: usize) -> Option<Walk>
+    ensures { result ≡ walked b.now n (Some from) }
 {
-    let Walk::At(start, t, a) = from else {
-        return Walk::Wrong;
-    };
-    let mut at = start;
-    let mut track = t;
-    let mut album = a;
-    let mut i = 0;
-    while i < n {
-        let Walk::At(next, t, a) = step(b, at, track, album) else {
-            return Walk::Wrong;
-        };
-        at = next;
-        track = t;
-        album = a;
-        i += 1;
+    let mut walk = from;
+    for _i in 0..n {
+        walk = step(b, walk)?;
     }
-    Walk::At(at, track, album)
+    Some(walk)
 }
 
 // Up to the first comment.
-fn begin(b: &[u8]) -> Walk
+fn begin(b: &[u8]) -> Option<Walk>
     ensures { result ≡ begun b.now }
 {
     if !octets::begins_with(b, &SIGNATURE) {
-        return Walk::Wrong;
+        return None;
     }
     if !tags_layout::fits_at(b, VENDOR_PLACE) {
-        return Walk::Wrong;
+        return None;
     }
     let vendor = tags_layout::vendor_size(b) as usize;
     if !utf8::is_utf8(octets::part_of(b, VENDOR_START, vendor)) {
-        return Walk::Wrong;
+        return None;
     }
     let first = tags_layout::first_comment(b);
-    if b.len() < first {
-        return Walk::Wrong;
+    let short = b.len() < first;
+    if short {
+        return None;
     }
-    Walk::At(first, false, false)
-}
-
-fn is_right(w: Walk) -> bool
-    ensures { result ≡ is_right w }
-{
-    match w {
-        Walk::Wrong => false,
-        Walk::At(_, _, _) => true,
-    }
-}
-
-fn place_in(w: Walk) -> usize
-    ensures { result ≡ place_in w }
-{
-    match w {
-        Walk::Wrong => 0,
-        Walk::At(at, _, _) => at,
-    }
+    Some(Walk {
+        at: first,
+        track: false,
+        album: false,
+    })
 }
 
 // Whether the bytes are a comment header, in one pass.
 fn is_tags(b: &[u8]) -> bool
     ensures { result ≡ is_tags b.now }
 {
-    let start = begin(b);
+    let Some(start) = begin(b) else {
+        return false;
+    };
     let n = tags_layout::count_of(b);
-    is_right(walk_by(b, start, n))
+    walk_by(b, start, n).is_some()
 }
 
 // The number of comments. 14: the packet is no comment header (RULES.md, 5).
-// Example: a right packet with the vendor "v" and the comments "a=1" and "b=2" gives `TagsRead::Count(2)`.
-pub fn read_tags(b: &[u8]) -> TagsRead
-    ensures { told_count result ≡ retold comment_count (read_tags b.now) }
+// Example: a right packet with the vendor "v" and the comments "a=1" and "b=2" gives `Ok(2)`.
+pub fn read_tags(b: &[u8]) -> Result<usize, Refusal>
+    ensures { told result ≡ retold comment_count (read_tags b.now) }
 {
     if !is_tags(b) {
-        return TagsRead::Refused(Refusal::BadTags);
+        return Err(Refusal::BadTags);
     }
-    TagsRead::Count(tags_layout::count_of(b))
+    Ok(tags_layout::count_of(b))
 }
 
 // Where the vendor lies. 14: the packet is no comment header (RULES.md, 5).
 // Example: a right packet with the vendor "v" gives the start 12 and the size 1.
-pub fn find_vendor(b: &[u8]) -> PartRead
-    ensures { told_part result ≡ find_vendor b.now }
+pub fn find_vendor(b: &[u8]) -> Result<Part, Refusal>
+    ensures { told result ≡ find_vendor b.now }
 {
     if !is_tags(b) {
-        return PartRead::Refused(Refusal::BadTags);
+        return Err(Refusal::BadTags);
     }
     tags_layout::find_text(b, VENDOR_PLACE)
 }
@@ -141,19 +110,20 @@ pub fn find_vendor(b: &[u8]) -> PartRead
 // Where comment i lies, the first being 0. The comments before it and those after it are walked once each. 14: the packet is
 // no comment header. 20: not 14, and it has no such comment.
 // Example: with an empty vendor the first comment's length is at place 16, and the comment starts at place 20.
-pub fn find_comment(b: &[u8], i: usize) -> PartRead
-    ensures { told_part result ≡ find_comment b.now i }
+pub fn find_comment(b: &[u8], i: usize) -> Result<Part, Refusal>
+    ensures { told result ≡ find_comment b.now i }
 {
-    let start = begin(b);
+    let start = begin(b).ok_or(Refusal::BadTags)?;
     let n = tags_layout::count_of(b);
     let before = octets::least(i, n);
-    let here = walk_by(b, start, before);
+    let here = walk_by(b, start, before).ok_or(Refusal::BadTags)?;
     let end = walk_by(b, here, n - before);
-    if !is_right(end) {
-        return PartRead::Refused(Refusal::BadTags);
+    if end.is_none() {
+        return Err(Refusal::BadTags);
     }
-    if n <= i {
-        return PartRead::Refused(Refusal::NoSuchPart);
+    let past = n <= i;
+    if past {
+        return Err(Refusal::NoSuchPart);
     }
-    tags_layout::find_text(b, place_in(here))
+    tags_layout::find_text(b, here.at)
 }

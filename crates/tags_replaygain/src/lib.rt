@@ -5,8 +5,6 @@ ghost use Rattle.std.specs.Prelude.{◌≡◌, true};
 ghost use Rattle.tags_layout.specs.Layout.{all_fit, texts_from};
 ghost use Rattle.tags_replaygain.specs.ReplayGain.{is_replay_gain, any_replay_gain, has_replay_gain};
 
-use tags_reader::TagsRead;
-
 // Whether the comment has one of the four names of REPLAYGAIN tags, without regard to ASCII case, and a "=" after it (RULES.md,
 // 18). It refuses nothing. Example: "replaygain_track_gain=-3 dB" has, and "REPLAYGAIN_TRACK_GAIN", without a "=", has not.
 pub fn is_replaygain(c: &[u8]) -> bool
@@ -30,15 +28,13 @@ fn any_from(b: &[u8], start: usize, n: usize) -> bool
     ensures { result ≡ any_replay_gain (texts_from b.now n start) }
 {
     let mut at = start;
-    let mut i = 0;
-    while i < n {
+    for _i in 0..n {
         let size = number_reader::number32(b, at) as usize;
         let text = at + 4;
         if is_replaygain(octets::part_of(b, text, size)) {
             return true;
         }
         at = text + size;
-        i += 1;
     }
     false
 }
@@ -48,8 +44,8 @@ fn any_from(b: &[u8], start: usize, n: usize) -> bool
 pub fn has_replaygain(b: &[u8]) -> bool
     ensures { result ≡ has_replay_gain b.now }
 {
-    match tags_reader::read_tags(b) {
-        TagsRead::Count(n) => any_from(b, tags_layout::first_comment(b), n),
-        TagsRead::Refused(_) => false,
-    }
+    let Ok(n) = tags_reader::read_tags(b) else {
+        return false;
+    };
+    any_from(b, tags_layout::first_comment(b), n)
 }

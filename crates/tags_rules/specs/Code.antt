@@ -1,10 +1,9 @@
 -- Comments judged one after the other, in the code's words: with the gains that were seen so far. Assumes nothing.
-use Rattle.std.specs.Prelude.{Bool, true, false, not, ◌&&◌, ◌||◌, List, [], ◌∷◌}
+use Rattle.std.specs.Prelude.{Option, Some, None, Bool, true, false, not, ◌&&◌, ◌||◌, List, [], ◌∷◌}
 use Rattle.octets.specs.Pick.{pick}
 use Rattle.octets.specs.Octets.{Bytes}
 use Rattle.tags_comment.specs.Names.{right_comment, is_named}
 use Rattle.tags_rules.specs.declared.Gains.{Gains}
-use Rattle.tags_rules.specs.declared.Gains.TheVariants.{Wrong, Seen}
 use Rattle.tags_rules.specs.Right.{track_gain, album_gain}
 
 -- a comment judged
@@ -15,9 +14,9 @@ pub data Judgement : Type 0 where
   seen : Bool → Bool → Judgement
 
 -- what the code's answer tells
-abbrev pub told_gains : Gains → Judgement
-told_gains Wrong = wrong
-told_gains (Seen track album) = seen track album
+abbrev pub told_gains : Option Gains → Judgement
+told_gains None = wrong
+told_gains (Some g) = seen g.track g.album
 
 -- the comment c is right, and no gain that was seen before
 abbrev pub goes_on : Bytes → Bool → Bool → Bool

@@ -6,13 +6,11 @@ ghost use Rattle.tags_comment.specs.Names.{is_named};
 ghost use Rattle.tags_rules.specs.Right.{track_gain, album_gain};
 ghost use Rattle.tags_rules.specs.Code.{judged, told_gains};
 
-// What the comments up to one give.
+// What the comments up to one give: whether the gain of the track and that of the album were seen.
 #[derive(Clone, Copy)]
-pub enum Gains {
-    // one of them is wrong, or a gain is there twice
-    Wrong,
-    // whether the gain of the track and that of the album were seen
-    Seen(bool, bool),
+pub struct Gains {
+    pub track: bool,
+    pub album: bool,
 }
 
 // Whether the comment is named as the gain of the track, R128_TRACK_GAIN, without regard to ASCII case (RULES.md, 5).
@@ -32,22 +30,25 @@ pub fn is_album_gain(c: &[u8]) -> bool
 }
 
 // One comment more, where `track` and `album` say which gains the comments before it have (RULES.md, 5). It gives which gains
-// the comments up to this one have, or `Gains::Wrong` where the comment is wrong or has a gain that one before it has.
-// Example: for "R128_TRACK_GAIN=0", `judge(c, false, false)` is `Gains::Seen(true, false)`, and `judge(c, true, false)` is
-// `Gains::Wrong`.
-pub fn judge(c: &[u8], track: bool, album: bool) -> Gains
+// the comments up to this one have, or `None` where the comment is wrong or has a gain that one before it has.
+// Example: for "R128_TRACK_GAIN=0", `judge(c, false, false)` gives `Some` with track true and album false, and
+// `judge(c, true, false)` is `None`.
+pub fn judge(c: &[u8], track: bool, album: bool) -> Option<Gains>
     ensures { told_gains result ≡ judged c.now track album }
 {
     if !tags_comment::right_comment(c) {
-        return Gains::Wrong;
+        return None;
     }
     let is_track = is_track_gain(c);
     let is_album = is_album_gain(c);
     if track & is_track {
-        return Gains::Wrong;
+        return None;
     }
     if album & is_album {
-        return Gains::Wrong;
+        return None;
     }
-    Gains::Seen(track | is_track, album | is_album)
+    Some(Gains {
+        track: track | is_track,
+        album: album | is_album,
+    })
 }

@@ -1,4 +1,5 @@
 -- Which fields the writer takes, and what it tells and leaves. Assumes nothing.
+use Rattle.std.specs.Prelude.{Ok, Err}
 use mathlib.Core.Path.{◌≡◌, refl, sym, ap}
 use mathlib.Core.Bool.{Bool, true, false, ◌&&◌}
 use mathlib.Core.List.{List}
@@ -15,7 +16,6 @@ use Rattle.utf8.specs.Characters.{utf8}
 use Rattle.refusal.specs.declared.Refusal.TheVariants.{ShortOutput, UnfitFields}
 use Rattle.refusal.specs.Checks.{first_of}
 use Rattle.refusal.specs.Told.{gives}
-use Rattle.tags_writer.specs.declared.TagsWritten.TheVariants.{Bytes as Written, Refused}
 use Rattle.tags_rules.specs.Right.{right_comments}
 use Rattle.tags_reader.specs.Right.{right_tags}
 use Rattle.tags_writer.specs.Writing.{cut_by, given, packet_of, write_checks, write_told, write_out, Wrote}
@@ -112,16 +112,16 @@ module _ (vendor text : Bytes) (ns : List ℕ) where
 
   -- ---- the answers
 
-  pub refused-fields : (out : Bytes) → right_fields vendor text ns ≡ false → Wrote vendor text ns out (Refused UnfitFields) out
+  pub refused-fields : (out : Bytes) → right_fields vendor text ns ≡ false → Wrote vendor text ns out (Err UnfitFields) out
   unfolding write_told write_out
   refused-fields out e = record { told = rw (unfit e (length out)); output = rw (unfit e (length out)) }
 
-  pub refused-room : (out : Bytes) → right_fields vendor text ns ≡ true → length out < size → Wrote vendor text ns out (Refused ShortOutput) out
+  pub refused-room : (out : Bytes) → right_fields vendor text ns ≡ true → length out < size → Wrote vendor text ns out (Err ShortOutput) out
   unfolding write_told write_out
   refused-room out e h = record { told = rw (short e (length out) h); output = rw (short e (length out) h) }
 
   pub wrote_packet : (out end : Bytes) → right_fields vendor text ns ≡ true → size ≤ length out → end ≡ copied out 0 (packet_of vendor text ns)
-      → Wrote vendor text ns out (Written size) end
+      → Wrote vendor text ns out (Ok size) end
   unfolding write_told write_out
   wrote_packet out end e h put =
       record {

@@ -1,19 +1,16 @@
 -- Writing a comment header (RULES.md, refusals 23 and 22; RFC 7845, 5.2). The comments are given joined, with a list of
 -- their lengths. Assumes nothing.
-use Rattle.std.specs.Prelude.{ℕ, ◌≡◌, not, List, [], ◌∷◌, ltb, eqb, length, take, drop}
+use Rattle.refusal.specs.Told.{told, Told, decided}
+use Rattle.std.specs.Prelude.{Result, ℕ, ◌≡◌, not, List, [], ◌∷◌, ltb, eqb, length, take, drop}
 use Rattle.std.proofs.Math.Option.{Option, none, some}
 use Rattle.octets.specs.Octets.{Bytes, total, copied}
 use Rattle.limits.specs.Limits.{packet_max}
 use Rattle.refusal.specs.declared.Refusal.{Refusal}
 use Rattle.refusal.specs.declared.Refusal.TheVariants.{ShortOutput, UnfitFields}
 use Rattle.refusal.specs.Checks.{Check, ◌when◌, first_of}
-use Rattle.refusal.specs.Told.{Told, gives, refuses, decided}
-use Rattle.refusal.specs.Numbers.{number_of}
 use Rattle.tags_layout.specs.Layout.{Tags}
 use Rattle.tags_reader.specs.Right.{right_tags}
 use Rattle.tags_reader.specs.Packet.{comments_bytes, tags_bytes}
-use Rattle.tags_writer.specs.declared.TagsWritten.{TagsWritten}
-use Rattle.tags_writer.specs.declared.TagsWritten.TheVariants.{Bytes as Written, Refused}
 
 -- the text cut into comments of these lengths
 unfoldable pub cut_by : List ℕ → Bytes → List Bytes
@@ -51,12 +48,7 @@ write_told vendor text ns out =
 unfoldable pub write_out : Bytes → Bytes → List ℕ → Bytes → Bytes
 write_out vendor text ns out = written (first_of (write_checks vendor text ns (length out))) out (packet_of vendor text ns)
 
--- what the code's answer tells
-abbrev pub told_written : TagsWritten → Told ℕ
-told_written (Written n) = gives n
-told_written (Refused r) = refuses (number_of r)
-
 -- the answer r, and the output from `out` at entry to `end` at exit
-pub record Wrote (vendor text : Bytes) (ns : List ℕ) (out : Bytes) (r : TagsWritten) (end : Bytes) : Type 0 where
-  pub told : told_written r ≡ write_told vendor text ns out
+pub record Wrote (vendor text : Bytes) (ns : List ℕ) (out : Bytes) (r : Result ℕ Refusal) (end : Bytes) : Type 0 where
+  pub told : told r ≡ write_told vendor text ns out
   pub output : end ≡ write_out vendor text ns out

@@ -13,35 +13,26 @@ use refusal::Refusal;
 use tags_layout::{EMPTY_SIZE, SIGNATURE, VENDOR_PLACE, VENDOR_START};
 use tags_rules::Gains;
 
-#[derive(Clone, Copy)]
-pub enum TagsWritten {
-    // how many bytes were written
-    Bytes(usize),
-    // 23 or 22
-    Refused(Refusal),
-}
-
 // Whether the lengths sum to the text, without a sum that could wrap, and the comments are right.
 fn right_lengths(text: &[u8], lengths: &[u64]) -> bool
     ensures { result ≡ right_lengths text.now lengths.now }
 {
     let mut at = 0;
-    let mut track = false;
-    let mut album = false;
-    let mut i = 0;
-    while i < lengths.len() {
-        let size = lengths[i] as usize;
+    let mut gains = Gains {
+        track: false,
+        album: false,
+    };
+    for length in lengths {
+        let size = *length as usize;
         if text.len() - at < size {
             return false;
         }
-        let Gains::Seen(t, a) = tags_rules::judge(octets::part_of(text, at, size), track, album)
-        else {
+        let comment = octets::part_of(text, at, size);
+        let Some(next) = tags_rules::judge(comment, gains.track, gains.album) else {
             return false;
         };
         at += size;
-        track = t;
-        album = a;
-        i += 1;
+        gains = next;
     }
     at == text.len()
 }
@@ -67,7 +58,8 @@ fn right_fields(vendor: &[u8], text: &[u8], lengths: &[u64]) -> bool
     if lengths.len() > PACKET_MAX {
         return false;
     }
-    if packet_size(vendor, text, lengths) > PACKET_MAX {
+    let long = packet_size(vendor, text, lengths) > PACKET_MAX;
+    if long {
         return false;
     }
     if !utf8::is_utf8(vendor) {
@@ -92,13 +84,11 @@ fn put_comments(out: &mut [u8], start: usize, text: &[u8], lengths: &[u64])
 {
     let mut at = start;
     let mut from = 0;
-    let mut i = 0;
-    while i < lengths.len() {
-        let size = lengths[i] as usize;
+    for length in lengths {
+        let size = *length as usize;
         put_text(out, at, octets::part_of(text, from, size));
         at += 4 + size;
         from += size;
-        i += 1;
     }
 }
 
@@ -119,18 +109,24 @@ fn put_tags(vendor: &[u8], text: &[u8], lengths: &[u64], out: &mut [u8])
 // do not sum to the text, the packet would be longer than 61,440 bytes, or reading would refuse it. 22: not 23, and `out` is
 // shorter than the packet. On refusal nothing is written.
 // Example: `write_tags(b"v", b"a=1b=2", &[3, 3], &mut out)` writes the comments "a=1" and "b=2", and gives
-// `TagsWritten::Bytes(31)`, where `out` has 31 bytes or more.
-pub fn write_tags(vendor: &[u8], text: &[u8], lengths: &[u64], out: &mut [u8]) -> TagsWritten
+// `Ok(31)`, where `out` has 31 bytes or more.
+pub fn write_tags(
+    vendor: &[u8],
+    text: &[u8],
+    lengths: &[u64],
+    out: &mut [u8],
+) -> Result<usize, Refusal>
     ensures { Wrote vendor.now text.now lengths.now
         out.old result out.new }
 {
     if !right_fields(vendor, text, lengths) {
-        return TagsWritten::Refused(Refusal::UnfitFields);
+        return Err(Refusal::UnfitFields);
     }
     let size = packet_size(vendor, text, lengths);
-    if out.len() < size {
-        return TagsWritten::Refused(Refusal::ShortOutput);
+    let short = out.len() < size;
+    if short {
+        return Err(Refusal::ShortOutput);
     }
     put_tags(vendor, text, lengths, out);
-    TagsWritten::Bytes(size)
+    Ok(size)
 }

@@ -43,7 +43,7 @@ fn three_digits(x: u64, b: u8) -> u64
 {
     let low = x % 100;
     let tens = low / 10;
-    0x303030 + x / 100 + tens * 256 + (low - 10 * tens) * 65536 + octets::wide(b) as u64 * 16777216
+    0x303030 + x / 100 + tens * 256 + (low - 10 * tens) * 65536 + u64::from(b) * 16777216
 }
 
 // The lowest four bytes of w; straight stores, which the compiler makes one.

@@ -9,10 +9,7 @@ ghost use Rattle.text_escape.specs.Escape.{hex_digit, escape_of, image_of, is_sh
 fn is_within(x: u32, first: u32, last: u32) -> bool
     ensures { result ≡ (leb first x && leb x last) }
 {
-    if x < first {
-        return false;
-    }
-    x <= last
+    first <= x && x <= last
 }
 
 // Whether the character of this number is never shown as it is.
@@ -98,13 +95,6 @@ fn image_length(n: usize, b: u8) -> usize
     if b == b'\\' { 2 } else { 4 }
 }
 
-// n less one, 0 where n is 0.
-fn less_one(n: usize) -> usize
-    ensures { result ≡ n - 1 }
-{
-    if n == 0 { 0 } else { n - 1 }
-}
-
 // Whether the text, escaped (RULES.md, 13), has at most `room` bytes.
 // Example: `fits_within(b"a\n", 5)` is true, and `fits_within(b"a\n", 4)` is false: escaped it is `a\x0A`, of five bytes.
 pub fn fits_within(s: &[u8], room: usize) -> bool
@@ -112,16 +102,14 @@ pub fn fits_within(s: &[u8], room: usize) -> bool
 {
     let mut left = room;
     let mut k = 0;
-    let mut i = 0;
-    while i < s.len() {
+    for (i, b) in s.iter().enumerate() {
         let n = bytes_shown(s, i, k);
-        let size = image_length(n, s[i]);
+        let size = image_length(n, *b);
         if left < size {
             return false;
         }
         left -= size;
-        k = less_one(n);
-        i += 1;
+        k = n.saturating_sub(1);
     }
     true
 }
@@ -133,12 +121,10 @@ fn lay_escaped(out: &mut [u8], at: usize, s: &[u8]) -> usize
 {
     let mut place = at;
     let mut k = 0;
-    let mut i = 0;
-    while i < s.len() {
+    for (i, b) in s.iter().enumerate() {
         let n = bytes_shown(s, i, k);
-        place = put_image(out, place, n, s[i]);
-        k = less_one(n);
-        i += 1;
+        place = put_image(out, place, n, *b);
+        k = n.saturating_sub(1);
     }
     place
 }

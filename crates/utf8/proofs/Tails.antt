@@ -1,23 +1,56 @@
 -- One byte more of a character: of its tails, and of its number. Assumes nothing.
-use mathlib.Core.Path.{◌≡◌, refl}
-use mathlib.Core.Bool.{false}
-use mathlib.Core.List.{◌∷◌}
+use mathlib.Core.Path.{◌≡◌, refl, sym, ap}
+use mathlib.Core.Bool.{Bool, true, false, ◌&&◌}
+use mathlib.Core.Logic.{◌≢◌}
+use mathlib.Core.List.{[], ◌∷◌}
 use Prim.Native.Nat.{ℕ, zero, suc, ◌+◌, ◌-◌, ◌*◌, ◌%◌, ◌^◌, ◌≤◌, ◌<◌}
 use native.Mathlib.Nat.{pow-suc, one-le-pow, mul-le-mul_left, mul-le-mul_right, mul_assoc, mul_comm}
 use native.Mathlib.Numerals.{add-one}
 use native.Mathlib.Omega.{arith}
-use borrow.Author.Tests.{le-leb, lt-leb}
-use lib.ListN.{length, get_or, drop, drop_of_length-le}
+use borrow.Author.Tests.{le-leb, lt-leb, eqb-true, eqb-false}
+use lib.Dec.{leb, eqb}
+use lib.ListN.{length, get_or, take, drop, drop_of_length-le, length-take}
 use lib.Seq.{drop-cons}
 use Rattle.octets.specs.Octets.{Bytes}
 use Rattle.utf8.specs.Characters.{tails_follow, number_with}
 
+-- ---- the bytes past the first n do not matter
+
+pub few : (n : ℕ) (s : Bytes) {t : Bytes} → t ≡ take n s → length t ≤ n
+few n s e = rw e (rw length-take (omega arith))
+
+pub taken_tails : (n : ℕ) (s : Bytes) → tails_follow n (take n s) ≡ tails_follow n s
+unfolding tails_follow
+taken_tails zero s = refl
+taken_tails (suc n) [] = refl
+taken_tails (suc n) (b ∷ s) = ap (λ (t : Bool). (leb 0x80 b && leb b 0xBF) && t) (taken_tails n s)
+
+pub taken-number : (x n : ℕ) (s : Bytes) → number_with x n (take n s) ≡ number_with x n s
+unfolding number_with
+taken-number x zero s = refl
+taken-number x (suc n) [] = refl
+taken-number x (suc n) (b ∷ s) = taken-number (x * 64 + b % 64) n s
+
 -- ---- the end comes first
+
+no_tails : (s : Bytes) → tails_follow 0 s ≡ true
+unfolding tails_follow
+no_tails s = refl
 
 pub cut_tails : (n : ℕ) (s : Bytes) (i : ℕ) → 0 < n → length s ≤ i → tails_follow n (drop i s) ≡ false
 unfolding tails_follow
 cut_tails zero s i p h = absurd (omega arith)
 cut_tails (suc n) s i p h = rw (drop_of_length-le s h)
+
+-- all that are there are tails, and whether they are enough decides
+pub enough_tails : (n i : ℕ) (s : Bytes) → i ≡ length s → i ≤ n → eqb (length s) n ≡ tails_follow (n - i) (drop i s)
+enough_tails n i s e h = by (eqb (length s) n) refl
+  where
+    by : (t : Bool) → eqb (length s) n ≡ t → t ≡ tails_follow (n - i) (drop i s)
+    by true q = let none : n - i ≡ 0 = omega (arith, eqb-true (length s) n q) in rw none (sym (no_tails (drop i s)))
+    by false q =
+        let more : length s ≢ n = λ p. eqb-false (length s) n q p in
+        sym (cut_tails (n - i) s i (omega arith) (omega arith))
 
 pub cut-number : (x n : ℕ) (s : Bytes) (i : ℕ) → length s ≤ i → number_with x n (drop i s) ≡ x
 unfolding number_with

@@ -6,6 +6,7 @@ ghost use Rattle.utf8.specs.Characters.{LengthTold, LengthTaken, lead_bits, tail
 ghost use Rattle.utf8.specs.Characters.{right_number, length_at, no_character, character_at, utf8};
 
 // A right character: how many bytes it has, and its number. Where there is none, both are 0.
+// stays: `find_character` gives this type, and its clause `character_at` names both fields where there is none.
 #[derive(Clone, Copy)]
 pub struct Character {
     pub size: usize,
@@ -13,11 +14,11 @@ pub struct Character {
 }
 
 // How many bytes the character has that begins with this byte; 0 where none begins so.
+#[tactic(auto, unfolding(crate::specs::Characters::character_length))]
 fn character_length(lead: u8) -> usize
     ensures { LengthTold lead result }
 {
-    let ones = u8::leading_zeros(!lead);
-    match ones {
+    match lead.leading_ones() {
         0 => 1,
         2 => 2,
         3 => 3,
@@ -43,23 +44,13 @@ fn lead_bits(lead: u8, n: usize) -> u8
 fn tails_follow(s: &[u8], at: usize, n: usize) -> bool
     ensures { result ≡ tails_follow n (drop at s.now) }
 {
-    let mut i = at;
-    let mut missing = n;
-    while missing > 0 {
-        if i >= s.len() {
+    let tails = octets::part_of(s, at, n);
+    for tail in tails {
+        if *tail < 0x80 || *tail > 0xBF {
             return false;
         }
-        let tail = s[i];
-        if tail < 0x80 {
-            return false;
-        }
-        if tail > 0xBF {
-            return false;
-        }
-        i += 1;
-        missing -= 1;
     }
-    true
+    tails.len() == n
 }
 
 // The character's number: the bits of its lead byte, and six from each of the n bytes from `at` on.
@@ -67,17 +58,9 @@ fn number_with(lead: u8, n: usize, s: &[u8], at: usize) -> u32
     requires { n ≤ 3 }
     ensures { result ≡ number_with lead n (drop at s.now) }
 {
-    let mut x = lead as u32;
-    let mut i = at;
-    let mut left = n;
-    while left > 0 {
-        if i >= s.len() {
-            return x;
-        }
-        let tail = s[i] % 64;
-        x = x * 64 + tail as u32;
-        i += 1;
-        left -= 1;
+    let mut x = u32::from(lead);
+    for tail in octets::part_of(s, at, n) {
+        x = x * 64 + u32::from(*tail % 64);
     }
     x
 }
@@ -95,19 +78,12 @@ fn least_of(n: usize) -> u32
 }
 
 // Whether n bytes are the shortest form of the number, and it is that of a character.
+#[tactic(auto, unfolding(crate::specs::Characters::right_number))]
 fn right_number(n: usize, x: u32) -> bool
     ensures { result ≡ right_number n x }
 {
-    if x < least_of(n) {
-        return false;
-    }
-    if x > 0x10FFFF {
-        return false;
-    }
-    if x < 0xD800 {
-        return true;
-    }
-    x > 0xDFFF
+    let least = least_of(n);
+    least <= x && x <= 0x10FFFF && (x < 0xD800 || x > 0xDFFF)
 }
 
 // The length of the right character that is here, 0 where there is none.
@@ -164,6 +140,7 @@ pub fn find_character(s: &[u8], at: usize) -> Character
 pub fn is_utf8(s: &[u8]) -> bool
     ensures { result ≡ utf8 s.now }
 {
+    // stays: a turn goes on by a character, and `find_character` needs `character_at`, which the library has not
     let mut i = 0;
     while i < s.len() {
         let n = character_at(s, i);

@@ -1,14 +1,14 @@
 -- `embulgri::embulgri_clock_add` meets its contract. Assumes nothing.
+use Rattle.refusal.specs.Told.{told}
 use mathlib.Core.Path.{ap}
 use borrow.Author.Rules.{rules}
-use Rattle.old_clock.specs.Clock.{told_added}
 use Rattle.embulgri.proofs.Answers.{answered, refused}
 use Rattle.embulgri.proofs.embulgri_clock_add.Goals as goal
 
-pub returns-in-Clock : goal.returns-in-Clock
-returns-in-Clock c =
-    answered c.add-added.ensures (ap told_added c.in-Clock.is)
+pub returns-in-Ok : goal.returns-in-Ok
+returns-in-Ok c =
+    answered c.add-added.ensures (ap told c.in-Ok.is)
 
-pub returns-in-Refused : goal.returns-in-Refused
-returns-in-Refused c =
-    refused c.add-added.ensures (ap told_added c.in-Refused.is) c.number.ensures
+pub returns-in-Err : goal.returns-in-Err
+returns-in-Err c =
+    refused c.add-added.ensures (ap told c.in-Err.is) c.number.ensures

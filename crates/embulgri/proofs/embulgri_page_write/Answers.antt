@@ -8,13 +8,13 @@ returns-then-flags-gt7 c =
     let a = c.args in
     rw c.number.ensures (flags-refused _ a.lacing.now a.body.now a.out.now a.written.now c.if-flags-gt7.true)
 
-pub returns-in-Bytes : goal.returns-in-Bytes
-returns-in-Bytes c =
+pub returns-in-Ok : goal.returns-in-Ok
+returns-in-Ok c =
     let a = c.args in
-    page-written _ a.lacing.now a.body.now a.out.now a.written.now c.write_page-wrote.ensures c.in-Bytes.is
+    page-written _ a.lacing.now a.body.now a.out.now a.written.now c.write_page-wrote.ensures c.in-Ok.is
 
-pub returns-in-Refused : goal.returns-in-Refused
-returns-in-Refused c =
+pub returns-in-Err : goal.returns-in-Err
+returns-in-Err c =
     let a = c.args in
     page_unwritten _ a.lacing.now a.body.now a.out.now a.written.now c.write_page-wrote.ensures
-    c.in-Refused.is c.number-in-Refused.ensures
+    c.in-Err.is c.number-in-Err.ensures

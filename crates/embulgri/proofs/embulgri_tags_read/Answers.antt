@@ -1,14 +1,14 @@
 -- `embulgri::embulgri_tags_read` meets its contract. Assumes nothing.
+use Rattle.refusal.specs.Told.{told}
 use mathlib.Core.Path.{ap}
 use borrow.Author.Rules.{rules}
-use Rattle.tags_reader.specs.Reading.{told_count}
 use Rattle.embulgri.proofs.Answers.{answered, refused}
 use Rattle.embulgri.proofs.embulgri_tags_read.Goals as goal
 
-pub returns-in-Count : goal.returns-in-Count
-returns-in-Count c =
-    answered c.read_tags-read.ensures (ap told_count c.in-Count.is)
+pub returns-in-Ok : goal.returns-in-Ok
+returns-in-Ok c =
+    answered c.read_tags-read.ensures (ap told c.in-Ok.is)
 
-pub returns-in-Refused : goal.returns-in-Refused
-returns-in-Refused c =
-    refused c.read_tags-read.ensures (ap told_count c.in-Refused.is) c.number.ensures
+pub returns-in-Err : goal.returns-in-Err
+returns-in-Err c =
+    refused c.read_tags-read.ensures (ap told c.in-Err.is) c.number.ensures

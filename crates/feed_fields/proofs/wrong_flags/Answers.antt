@@ -4,5 +4,4 @@ use Rattle.feed_fields.proofs.wrong_flags.Goals as goal
 
 pub returns : goal.returns
 unfolding wrong_flags
-returns c =
-    rw (c.either-2.ensures, c.either.ensures, c.both-end.ensures, c.differ-mark.ensures, c.is_last_page.ensures, c.in_headers.ensures, c.is_first.ensures, c.is_first_page.ensures)
+returns c = rw (c.is_first_page.ensures, c.is_first.ensures, c.is_last_page.ensures, c.in_headers.ensures)

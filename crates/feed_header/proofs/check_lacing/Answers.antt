@@ -1,7 +1,6 @@
 -- `feed_header::check_lacing` meets its contract: `HeaderPages` has its ways. Assumes nothing.
 use mathlib.Core.Path.{◌≡◌, sym, ap, ◌∙◌}
 use mathlib.Core.Bool.{Bool}
-use borrow.Author.Rules.{rules}
 use Rattle.granule.specs.Judging.{granule_wrong}
 use Rattle.stream.specs.Page.{page_with}
 use Rattle.stream.specs.Shape.{shape_of, is_ends, wrong_shape}

@@ -1,11 +1,9 @@
 -- `feed_header::feed_header` meets its contract: a header page is fed, and of anything else nothing is told. Assumes nothing.
-use mathlib.Core.Path.{◌≡◌, sym, ◌∙◌}
-use mathlib.Core.Bool.{true}
-use borrow.Author.Rules.{rules}
+use mathlib.Core.Path.{sym, ◌∙◌}
 use Rattle.octets.proofs.Tests.{failed, held}
 use Rattle.stream.specs.Lent.{with_carry}
 use Rattle.stream.specs.Readings.{readings}
-use Rattle.feed_header.proofs.Fitting.{tested, head-due, comment-due, not-due, due}
+use Rattle.feed_header.proofs.Fitting.{head-due, comment-due, not-due, due}
 use Rattle.feed_header.proofs.feed_header.Goals as goal
 
 pub returns-then-not-is_fed : goal.returns-then-not-is_fed

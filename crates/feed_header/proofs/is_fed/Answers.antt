@@ -1,5 +1,4 @@
 -- `feed_header::is_fed` meets its contract. Assumes nothing.
-use borrow.Author.Rules.{rules}
 use Rattle.octets.proofs.Tests.{failed, held}
 use Rattle.feed_header.specs.Header.{is_header_page}
 use Rattle.feed_header.proofs.is_fed.Goals as goal

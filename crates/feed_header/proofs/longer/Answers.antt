@@ -2,10 +2,8 @@
 use mathlib.Core.Path.{◌≡◌}
 use Prim.Native.Nat.{◌+◌, ◌≤◌}
 use native.Mathlib.Omega.{arith}
-use borrow.Author.Rules.{rules}
 use Rattle.stream.specs.declared.Pending.TheVariants.{Nothing, Held}
 use Rattle.limits.specs.Limits.{packet_max}
-use Rattle.feed_header.specs.Code.{longer}
 use Rattle.feed_header.proofs.longer.Goals as goal
 
 pub overflow_add-result : goal.overflow_add-result

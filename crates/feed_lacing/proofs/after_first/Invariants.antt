@@ -1,12 +1,8 @@
 -- `feed_lacing::after_first` meets its contract. Assumes nothing.
 use mathlib.Core.Path.{◌≡◌}
-use Prim.Native.Nat.{◌-◌, ◌≤◌}
-use lib.ListN.{length, drop}
+use lib.ListN.{drop}
 use Rattle.stream.specs.Packets.{after_first}
 use Rattle.feed_lacing.proofs.after_first.Given as goal
 
 abbrev pub invariant-loop-i : goal.invariant-loop-i
-invariant-loop-i l = (after_first (drop l.i l.lacing) ≡ after_first l.lacing) × (l.i ≤ length l.lacing)
-
-abbrev pub decreases-loop-i : goal.decreases-loop-i
-decreases-loop-i l = length l.lacing - l.i
+invariant-loop-i l = after_first (drop l.i l.lacing) ≡ after_first l.lacing

@@ -1,15 +1,11 @@
 -- `feed_lacing::scan_page` meets its contract. Assumes nothing.
 use mathlib.Core.Path.{◌≡◌, ap, ◌∙◌}
 use native.Mathlib.Omega.{arith}
+use lib.ListN.{length-drop}
+use lib.Seq.{take_all}
 use Rattle.stream.specs.declared.Pending.TheVariants.{Nothing, Held, Dropped}
 use Rattle.feed_lacing.specs.Scan.{scan_of}
 use Rattle.feed_lacing.proofs.scan_page.Goals as goal
-
-pub scan_from-requires : goal.scan_from-requires
-scan_from-requires c = omega arith
-
-pub scan_from-requires-in-Dropped : goal.scan_from-requires-in-Dropped
-scan_from-requires-in-Dropped c = c.after_first-from.ensures.inside
 
 pub returns-in-Nothing : goal.returns-in-Nothing
 returns-in-Nothing c =
@@ -23,4 +19,5 @@ returns-in-Held c =
 pub returns-in-Dropped : goal.returns-in-Dropped
 returns-in-Dropped c =
     let q : c.args.pending ≡ Dropped = cc in
-    rw q (c.scan_from-in-Dropped.ensures ∙ ap (scan_of 0) c.after_first-from.ensures.values)
+    rw q (c.scan_from-in-Dropped.ensures
+    ∙ ap (scan_of 0) (take_all _ _ (omega (arith, length-drop c.after_first-from.result c.args.lacing.now)) ∙ c.after_first-from.ensures.values))

@@ -1,6 +1,5 @@
 -- `feed_page::check_unread` meets its contract. Assumes nothing.
 use mathlib.Core.Path.{sym, ◌∙◌}
-use borrow.Author.Rules.{rules}
 use Rattle.refusal.specs.Checks.{first_of}
 use Rattle.feed_page.proofs.check_unread.Goals as goal
 

@@ -1,6 +1,5 @@
 -- `feed_page::feed_due` meets its contract: `Joining` has its ways. Assumes nothing.
 use mathlib.Core.Path.{sym, ◌∙◌}
-use borrow.Author.Rules.{rules}
 use Rattle.stream.specs.Lent.{lent_of}
 use Rattle.feed_page.proofs.Joining.{by-audio, by-header}
 use Rattle.feed_page.proofs.feed_due.Goals as goal

@@ -1,9 +1,8 @@
 -- `feed_page::made_again` meets its contract. Assumes nothing.
-use borrow.Author.Rules.{rules}
 use Rattle.feed_page.proofs.made_again.Goals as goal
 
-pub returns-in-Accepted : goal.returns-in-Accepted
-returns-in-Accepted c = cc
+pub returns-in-Ok : goal.returns-in-Ok
+returns-in-Ok c = cc
 
-pub returns-in-Refused : goal.returns-in-Refused
-returns-in-Refused c = cc
+pub returns-in-Err : goal.returns-in-Err
+returns-in-Err c = cc

@@ -1,7 +1,6 @@
 -- `feed_pages::feed_pages` meets its contract: the tables are right. Assumes nothing.
 use Prim.Native.Nat.{ℕ}
 use mathlib.Core.Path.{◌∙◌}
-use borrow.Author.Rules.{rules}
 use Rattle.octets.specs.Octets.{Bytes, Octets}
 use Rattle.page_crc.specs.Crc.{page_crc}
 use Rattle.page_crc_tables.specs.Table.{entry_in}

@@ -1,6 +1,5 @@
 -- `feed_pages::feed_state_pages` meets its contract. Assumes nothing.
 use Prim.Native.Nat.{ℕ}
-use borrow.Author.Rules.{rules}
 use Rattle.stream.specs.Lent.{lent_of}
 use Rattle.feed_pages.proofs.State.{state_run}
 use Rattle.feed_pages.proofs.feed_state_pages.Goals as goal

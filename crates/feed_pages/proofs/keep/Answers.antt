@@ -1,5 +1,4 @@
 -- `feed_pages::keep` meets its contract. Assumes nothing.
-use borrow.Author.Rules.{rules}
 use borrow.Author.Tests.{eq-eqb, ne_eqb}
 use Rattle.feed_pages.specs.State.{numbers_reached}
 use Rattle.feed_pages.proofs.keep.Goals as goal

@@ -1,19 +1,16 @@
 -- `feed_pages::run` meets its contract. The loop's invariant: what is left of the run makes the whole. Assumes nothing.
+use Rattle.std.specs.Prelude.{Result, Ok, Err}
 use Prim.Native.Nat.{ℕ, suc, ◌-◌}
 use mathlib.Core.Path.{◌≡◌, refl, sym, ap, ◌∙◌}
 use native.Mathlib.Omega.{arith}
-use borrow.Author.Rules.{rules}
 use lib.ListN.{length}
 use Rattle.octets.specs.Octets.{Bytes, Octets}
 use Rattle.page_crc_tables.specs.Table.{entry_in}
 use Rattle.page_crc.specs.Sliced.{page_sliced}
 use Rattle.stream.specs.Readings.{Readings, readings}
 use Rattle.stream.specs.Lent.{Lent, lent_of}
-use Rattle.reader.specs.Answers.{known_as}
 use Rattle.feed_pages.specs.declared.Progress.{Progress}
 use Rattle.feed_pages.specs.declared.Stop.{Stop}
-use Rattle.feed_pages.specs.declared.Turn.{Turn}
-use Rattle.feed_pages.specs.declared.Turn.TheVariants.{Goes, Stops}
 use Rattle.feed_pages.specs.Run.{Reached, goes, turn, Ended, runs, feed_pages, Inside}
 use Rattle.feed_pages.specs.Answers.{reached, told_stop, told_turn}
 use Rattle.feed_pages.proofs.Turns.{Onward, turn-onward, run_goes, run_stops}
@@ -23,7 +20,7 @@ no_page_yet : (n : ℕ) (R : Readings) (b : Bytes) (a : Reached) (m : Lent) → 
 no_page_yet n R b a m = let all : n - 0 ≡ n = omega arith in rw all
 
 -- where a turn over b has ended, from p on with m lent, and with `end` after it
-module _ (R : Readings) (b : Bytes) (o : Octets b) (p : Progress) (m end : Lent) (all : Ended) (turned : Turn) (is : told_turn turned end ≡ turn R b (reached p) m)
+module _ (R : Readings) (b : Bytes) (o : Octets b) (p : Progress) (m end : Lent) (all : Ended) (turned : Result Progress Stop) (is : told_turn turned end ≡ turn R b (reached p) m)
     (fits : Inside (reached p) b m) (whole : runs (suc (length b) - p.pages) R b (reached p) m ≡ all) where
   -- the pages that are left, this turn's included
   rest : runs (suc (length b - p.pages)) R b (reached p) m ≡ all
@@ -31,9 +28,9 @@ module _ (R : Readings) (b : Bytes) (o : Octets b) (p : Progress) (m end : Lent)
       let left : suc (length b - p.pages) ≡ suc (length b) - p.pages = omega (arith, fits.few, fits.bytes) in
       ap (λ (k : ℕ). runs k R b (reached p) m) left ∙ whole
 
-  module _ {next : Progress} (q : turned ≡ Goes next) where
+  module _ {next : Progress} (q : turned ≡ Ok next) where
     told : goes (reached next) end ≡ turn R b (reached p) m
-    told = sym (ap (λ (t : Turn). told_turn t end) q) ∙ is
+    told = sym (ap (λ (t : Result Progress Stop). told_turn t end) q) ∙ is
 
     onward : Onward (reached p) b (reached next) end
     onward = turn-onward R b o (reached p) m fits (sym told)
@@ -43,8 +40,8 @@ module _ (R : Readings) (b : Bytes) (o : Octets b) (p : Progress) (m end : Lent)
         let left : suc (length b) - next.pages ≡ length b - p.pages = omega (arith, onward.page) in
         ap (λ (k : ℕ). runs k R b (reached next) end) left ∙ sym (run_goes R b (reached p) m (length b - p.pages) told) ∙ rest
 
-  stopped : {why : Stop} → turned ≡ Stops why → record { reached = reached p; why = told_stop why; lent = end } ≡ all
-  stopped q = sym (run_stops R b (reached p) m (length b - p.pages) (sym (ap (λ (t : Turn). told_turn t end) q) ∙ is)) ∙ rest
+  stopped : {why : Stop} → turned ≡ Err why → record { reached = reached p; why = told_stop why; lent = end } ≡ all
+  stopped q = sym (run_stops R b (reached p) m (length b - p.pages) (sym (ap (λ (t : Result Progress Stop). told_turn t end) q) ∙ is)) ∙ rest
 
 pub loop-next-init : goal.loop-next-init
 loop-next-init c = (
@@ -69,7 +66,7 @@ loop-next-smaller c =
     let o : Octets b = record { below = λ (i : ℕ). (c.shared_slice_known-1.given i).fits } in
     let m : Lent = lent_of l.carry l.ends l.lengths l.kept l.frames in
     let end : Lent = lent_of n.carry n.ends n.lengths n.kept n.frames in
-    let on = onward R b o l.progress m end _ _ c.feed_next.ensures l.invariant.1 l.invariant.0 c.in-Goes.is in
+    let on = onward R b o l.progress m end _ _ c.feed_next.ensures l.invariant.1 l.invariant.0 c.in-Ok.is in
     omega (arith, on.moves, on.fits.bytes)
 
 pub loop-next-preserved : goal.loop-next-preserved
@@ -82,8 +79,8 @@ loop-next-preserved c =
     let m : Lent = lent_of l.carry l.ends l.lengths l.kept l.frames in
     let end : Lent = lent_of n.carry n.ends n.lengths n.kept n.frames in
     let inv = l.invariant in (
-      rest_on R b o l.progress m end _ _ c.feed_next.ensures inv.1 inv.0 c.in-Goes.is,
-      (onward R b o l.progress m end _ _ c.feed_next.ensures inv.1 inv.0 c.in-Goes.is).fits,
+      rest_on R b o l.progress m end _ _ c.feed_next.ensures inv.1 inv.0 c.in-Ok.is,
+      (onward R b o l.progress m end _ _ c.feed_next.ensures inv.1 inv.0 c.in-Ok.is).fits,
       c.carry-1.given ∙ inv.2,
       c.ends-1.given ∙ inv.3,
       c.lengths-1.given ∙ inv.4,
@@ -91,24 +88,24 @@ loop-next-preserved c =
       c.frames-1.given ∙ inv.6,
     )
 
-pub shape_of-carry-in-Stops : goal.shape_of-carry-in-Stops
-shape_of-carry-in-Stops c = c.carry-1.given ∙ c.loop-next.invariant.2
+pub shape_of-carry-in-Err : goal.shape_of-carry-in-Err
+shape_of-carry-in-Err c = c.carry-1.given ∙ c.loop-next.invariant.2
 
-pub shape_of-ends-in-Stops : goal.shape_of-ends-in-Stops
-shape_of-ends-in-Stops c = c.ends-1.given ∙ c.loop-next.invariant.3
+pub shape_of-ends-in-Err : goal.shape_of-ends-in-Err
+shape_of-ends-in-Err c = c.ends-1.given ∙ c.loop-next.invariant.3
 
-pub shape_of-lengths-in-Stops : goal.shape_of-lengths-in-Stops
-shape_of-lengths-in-Stops c = c.lengths-1.given ∙ c.loop-next.invariant.4
+pub shape_of-lengths-in-Err : goal.shape_of-lengths-in-Err
+shape_of-lengths-in-Err c = c.lengths-1.given ∙ c.loop-next.invariant.4
 
-pub shape_of-kept-in-Stops : goal.shape_of-kept-in-Stops
-shape_of-kept-in-Stops c = c.kept-1.given ∙ c.loop-next.invariant.5
+pub shape_of-kept-in-Err : goal.shape_of-kept-in-Err
+shape_of-kept-in-Err c = c.kept-1.given ∙ c.loop-next.invariant.5
 
-pub shape_of-frames-in-Stops : goal.shape_of-frames-in-Stops
-shape_of-frames-in-Stops c = c.frames-1.given ∙ c.loop-next.invariant.6
+pub shape_of-frames-in-Err : goal.shape_of-frames-in-Err
+shape_of-frames-in-Err c = c.frames-1.given ∙ c.loop-next.invariant.6
 
-pub returns-in-Stops : goal.returns-in-Stops
+pub returns-in-Err : goal.returns-in-Err
 unfolding feed_pages
-returns-in-Stops c =
+returns-in-Err c =
     let l = c.loop-next in
     let n = c.feed_next.new in
     let b : Bytes = c.args.buffer.now in
@@ -116,4 +113,4 @@ returns-in-Stops c =
     let o : Octets b = record { below = λ (i : ℕ). (c.shared_slice_known-1.given i).fits } in
     let m : Lent = lent_of l.carry l.ends l.lengths l.kept l.frames in
     let end : Lent = lent_of n.carry n.ends n.lengths n.kept n.frames in
-    stopped R b o l.progress m end _ _ c.feed_next.ensures l.invariant.1 l.invariant.0 c.in-Stops.is
+    stopped R b o l.progress m end _ _ c.feed_next.ensures l.invariant.1 l.invariant.0 c.in-Err.is

@@ -1,22 +1,13 @@
 -- `feed_pages::run` meets its contract. The loop's invariant: what is left of the run makes the whole. Assumes nothing.
-use Prim.Native.Nat.{ℕ, suc, ◌-◌}
-use mathlib.Core.Path.{◌≡◌, refl, sym, ap, ◌∙◌}
-use native.Mathlib.Omega.{arith}
-use borrow.Author.Rules.{rules}
+use Prim.Native.Nat.{suc, ◌-◌}
+use mathlib.Core.Path.{◌≡◌}
 use lib.ListN.{length}
-use Rattle.octets.specs.Octets.{Bytes}
 use Rattle.page_crc_tables.specs.Table.{entry_in}
 use Rattle.page_crc.specs.Sliced.{page_sliced}
-use Rattle.stream.specs.Readings.{Readings, readings}
-use Rattle.stream.specs.Lent.{Lent, lent_of}
-use Rattle.reader.specs.Answers.{known_as}
-use Rattle.feed_pages.specs.declared.Progress.{Progress}
-use Rattle.feed_pages.specs.declared.Stop.{Stop}
-use Rattle.feed_pages.specs.declared.Turn.{Turn}
-use Rattle.feed_pages.specs.declared.Turn.TheVariants.{Goes, Stops}
-use Rattle.feed_pages.specs.Run.{Reached, goes, turn, Ended, runs, feed_pages, Inside}
-use Rattle.feed_pages.specs.Answers.{reached, told_stop, told_turn}
-use Rattle.feed_pages.proofs.Turns.{Onward, turn-onward, run_goes, run_stops}
+use Rattle.stream.specs.Readings.{readings}
+use Rattle.stream.specs.Lent.{lent_of}
+use Rattle.feed_pages.specs.Run.{runs, Inside}
+use Rattle.feed_pages.specs.Answers.{reached}
 use Rattle.feed_pages.proofs.run.Given as goal
 
 abbrev pub invariant-loop-next : goal.invariant-loop-next

@@ -2,4 +2,4 @@
 use Rattle.granule.proofs.place_first.Goals as goal
 
 pub returns : goal.returns
-returns c = rw (c.minus-at.ensures, c.minus.ensures)
+returns c = rw (c.saturating_sub-at.ensures, c.saturating_sub.ensures)

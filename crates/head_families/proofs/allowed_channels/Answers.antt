@@ -1,8 +1,7 @@
 -- `head_families::allowed_channels` meets its contract: the family's set or its limit decides. Assumes nothing.
-use mathlib.Core.Path.{◌≡◌, sym, ◌∙◌}
+use mathlib.Core.Path.{sym, ◌∙◌}
 use native.Mathlib.Omega.{arith}
-use borrow.Author.Rules.{rules}
-use borrow.Author.Tests.{le-leb, lt-leb, ne_eqb}
+use borrow.Author.Tests.{le-leb, lt-leb}
 use Rattle.head_families.proofs.Checks.{no_channel, set_decides, most_decides, most_other, not-ambisonic}
 use Rattle.head_families.proofs.allowed_channels.Goals as goal
 

@@ -3,11 +3,10 @@
 use mathlib.Core.Path.{◌≡◌, refl, ap, ◌∙◌}
 use Prim.Native.Nat.{ℕ, ◌<◌}
 use native.Mathlib.Omega.{arith}
-use borrow.Author.Rules.{rules}
 use Rattle.octets.specs.Octets.{Bytes}
 use Rattle.head_families.specs.Families.{ambisonic_below, ambisonic_channels}
 use Rattle.head_families.specs.Listed.{is_listed}
-use Rattle.head_families.proofs.Listing.{passing, listed}
+use Rattle.head_families.proofs.Listing.{any_listed, passing, listed}
 use Rattle.head_families.proofs.ambisonic_channels.Goals as goal
 
 -- a list that has them
@@ -16,4 +15,4 @@ has_all s test i h = ap (is_listed i) test ∙ listed ambisonic_channels i 256 0
 
 pub returns : goal.returns
 unfolding ambisonic_below
-returns c = c.is_listed.ensures ∙ has_all _ refl c.args.channels (omega arith)
+returns c = c.contains.ensures.value ∙ any_listed c.args.channels _ ∙ has_all _ refl c.args.channels (omega arith)

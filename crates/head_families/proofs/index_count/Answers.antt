@@ -1,7 +1,6 @@
 -- `head_families::index_count` meets its contract. Assumes nothing.
 use mathlib.Core.Path.{sym, ◌∙◌}
 use native.Mathlib.Omega.{arith}
-use borrow.Author.Rules.{rules}
 use Rattle.head_families.proofs.index_count.Goals as goal
 
 pub returns-then-has_matrix : goal.returns-then-has_matrix

@@ -2,7 +2,6 @@
 use mathlib.Core.Path.{sym}
 use Prim.Native.Nat.{◌+◌, ◌*◌, ◌≤◌}
 use native.Mathlib.Omega.{arith}
-use borrow.Author.Rules.{rules}
 use Rattle.octets.proofs.Tests.{failed, held}
 use Rattle.head_families.proofs.Lengths.{no_matrix, with_matrix, entries-most}
 use Rattle.head_families.proofs.matrix_length.Goals as goal

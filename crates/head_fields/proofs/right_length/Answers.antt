@@ -3,10 +3,10 @@ use borrow.Author.Tests.{le-leb, lt-leb}
 use Rattle.head_fields.specs.Right.{right_length}
 use Rattle.head_fields.proofs.right_length.Goals as goal
 
-pub returns-then-version-ge2 : goal.returns-then-version-ge2
+pub returns-then-extends : goal.returns-then-extends
 unfolding right_length
-returns-then-version-ge2 c = rw (le-leb 2 _ c.if-version-ge2.true)
+returns-then-extends c = rw (le-leb 2 _ c.if-extends.true)
 
 pub returns : goal.returns
 unfolding right_length
-returns c = rw (lt-leb 2 _ c.if-version-ge2.false)
+returns c = rw (lt-leb 2 _ c.if-extends.false)

@@ -9,8 +9,8 @@ use Rattle.head_matrix.specs.Matrix.{entry_of}
 use Rattle.head_matrix.proofs.Answers.{no_entry, some-entry}
 use Rattle.head_matrix.proofs.entry_at.Goals as goal
 
-pub returns-then-i-m : goal.returns-then-i-m
-returns-then-i-m c = let a = c.args in sym (no_entry a.m.now a.i c.if-i-m.true)
+pub returns-then-past : goal.returns-then-past
+returns-then-past c = let a = c.args in sym (no_entry a.m.now a.i c.if-past.true)
 
 pub overflow_mul-i : goal.overflow_mul-i
 overflow_mul-i c = omega arith
@@ -22,4 +22,4 @@ returns c =
     let kept : to_z w16 (of_z w16 z) ≡ z = search rules in
     let entry : to_z w16 (of_z w16 z) ≡ entry_of a.m.now a.i =
     (kept ∙ c.signed16.ensures ∙ ap (to_z w16) c.number16.ensures) in
-    ap gives entry ∙ sym (some-entry a.m.now a.i c.if-i-m.false)
+    ap gives entry ∙ sym (some-entry a.m.now a.i c.if-past.false)

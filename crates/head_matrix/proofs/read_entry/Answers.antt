@@ -1,21 +1,25 @@
 -- `head_matrix::read_entry` meets its contract. Assumes nothing.
-use mathlib.Core.Path.{sym, ap, ◌∙◌}
+use Rattle.std.specs.Prelude.{Err}
+use mathlib.Core.Path.{◌≡◌, sym, ap, ◌∙◌}
 use Prim.Native.Nat.{ℕ}
+use native.Mathlib.Omega.{arith}
 use Rattle.octets.specs.Octets.{Bytes}
 use Rattle.refusal.specs.Numbers.{number_of}
-use Rattle.head_matrix.specs.Matrix.{entry_at, told_size}
+use Rattle.head_matrix.specs.Matrix.{entry_at}
 use Rattle.head_matrix.proofs.Answers.{entry-given, entry-refused}
 use Rattle.head_matrix.proofs.read_entry.Goals as goal
 
-pub returns-in-Size : goal.returns-in-Size
-returns-in-Size c =
+pub returns-in_err-n : goal.returns-in_err-n
+returns-in_err-n c =
+    let a = c.args in
+    let why = c.in_err-n.field-0.0 in
+    let same : c.from_residual.result ≡ Err why = grind arith in
+    rw same (entry-refused a.b.now (number_of why) (sym c.in_err-n.ensures) a.i)
+
+pub returns : goal.returns
+returns c =
     let a = c.args in
     let i : ℕ = a.i in
     c.entry_at.ensures
     ∙ ap (λ (m : Bytes). entry_at m i) c.part_of.ensures
-    ∙ entry-given a.b.now c.in-Size.n (sym c.read_size.ensures ∙ ap told_size c.in-Size.is) i
-
-pub returns-in-Refused : goal.returns-in-Refused
-returns-in-Refused c =
-    let a = c.args in
-    entry-refused a.b.now (number_of c.in-Refused.why) (sym c.read_size.ensures ∙ ap told_size c.in-Refused.is) a.i
+    ∙ entry-given a.b.now c.in_ok-n.n (sym c.in_ok-n.ensures) i

@@ -23,12 +23,12 @@ returns-then-b-lt-START_LENGTH c =
     (held (c.readable_version.ensures ∙ ap readable_version c.byte_at-version.ensures) c.if-not-readable_version.false)
     c.if-b-lt-START_LENGTH.true)
 
-pub returns-then-fields-gt-PACKET_MAX : goal.returns-then-fields-gt-PACKET_MAX
-returns-then-fields-gt-PACKET_MAX c =
+pub returns-then-long : goal.returns-then-long
+returns-then-long c =
     let b = c.args.b.now in
     let begun = held c.begins_with.ensures c.if-not-begins_with.false in
     let readable = held (c.readable_version.ensures ∙ ap readable_version c.byte_at-version.ensures) c.if-not-readable_version.false in
-    sym (long-head b begun readable c.if-b-lt-START_LENGTH.false (rw c.length_of-fields.ensures at c.if-fields-gt-PACKET_MAX.true))
+    sym (long-head b begun readable c.if-b-lt-START_LENGTH.false (rw c.length_of-fields.ensures at c.if-long.true))
 
 pub returns : goal.returns
 returns c =
@@ -39,4 +39,4 @@ returns c =
     ∙ ap₂ (λ (v n : ℕ). right_length v n (length b)) c.byte_at-version.ensures c.length_of-fields.ensures
     ∙ sym
     (length_decides b begun readable c.if-b-lt-START_LENGTH.false
-    (rw c.length_of-fields.ensures at c.if-fields-gt-PACKET_MAX.false))
+    (rw c.length_of-fields.ensures at c.if-long.false))

@@ -15,19 +15,19 @@ returns-then-not-writable_head c =
     not_written a.h a.matrix.now a.out.now UnfitFields
     (unfit a.h a.matrix.now a.out.now (failed c.writable_head.ensures c.if-not-writable_head.true))
 
-pub returns-then-matrix-matrix_length : goal.returns-then-matrix-matrix_length
-returns-then-matrix-matrix_length c =
+pub returns-then-other : goal.returns-then-other
+returns-then-other c =
     let right : writable_head c.args.h ≡ true = held c.writable_head.ensures c.if-not-writable_head.false in
     let a = c.args in
     not_written a.h a.matrix.now a.out.now UnfitFields
-    (other-matrix a.h a.matrix.now a.out.now c.matrix_length.ensures right c.if-matrix-matrix_length.true)
+    (other-matrix a.h a.matrix.now a.out.now c.matrix_length.ensures right c.if-other.true)
 
 pub returns-then-out-size : goal.returns-then-out-size
 returns-then-out-size c =
     let right : writable_head c.args.h ≡ true = held c.writable_head.ensures c.if-not-writable_head.false in
     -- the matrix has the length that the fields say
     let sized : length c.args.matrix.now
-    ≡ matrix_size c.args.h = c.if-matrix-matrix_length.false ∙ c.matrix_length.ensures in
+    ≡ matrix_size c.args.h = c.if-other.false ∙ c.matrix_length.ensures in
     let a = c.args in
     not_written a.h a.matrix.now a.out.now ShortOutput
     (short-output a.h a.matrix.now a.out.now right sized c.head_length-size.ensures c.if-out-size.true)
@@ -35,14 +35,14 @@ returns-then-out-size c =
 pub put_head-requires : goal.put_head-requires
 put_head-requires c =
     let sized : length c.args.matrix.now
-    ≡ matrix_size c.args.h = c.if-matrix-matrix_length.false ∙ c.matrix_length.ensures in
+    ≡ matrix_size c.args.h = c.if-other.false ∙ c.matrix_length.ensures in
     record { matrix = sized; room = rw c.head_length-size.ensures at c.if-out-size.false }
 
 pub returns : goal.returns
 returns c =
     let right : writable_head c.args.h ≡ true = held c.writable_head.ensures c.if-not-writable_head.false in
     let sized : length c.args.matrix.now
-    ≡ matrix_size c.args.h = c.if-matrix-matrix_length.false ∙ c.matrix_length.ensures in
+    ≡ matrix_size c.args.h = c.if-other.false ∙ c.matrix_length.ensures in
     let a = c.args in
     wrote a.h a.matrix.now a.out.now c.head_length-size.ensures c.put_head.ensures
     (writable a.h a.matrix.now a.out.now right sized c.head_length-size.ensures c.if-out-size.false)

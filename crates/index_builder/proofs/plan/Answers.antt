@@ -1,14 +1,20 @@
 -- `index_builder::plan` meets its contract. Assumes nothing.
-use mathlib.Core.Path.{◌∙◌}
+use native.Mathlib.Omega.{arith}
+use Rattle.std.specs.Prelude.{Err}
+use mathlib.Core.Path.{◌∙◌, ◌≡◌}
 use borrow.Author.Rules.{rules}
 use Rattle.index_builder.specs.Building.{build}
 use Rattle.index_builder.proofs.plan.Goals as goal
 
-pub returns-in-Whole : goal.returns-in-Whole
+pub returns : goal.returns
 unfolding build
-returns-in-Whole c =
-    c.fit.ensures ∙ rw (← c.judge.ensures, c.in-Whole.is)
+returns c =
+    c.fit.ensures ∙ rw (← c.judge.ensures, c.in_ok-judge.was)
 
-pub returns-in-Refused : goal.returns-in-Refused
+pub returns-in_err-judge : goal.returns-in_err-judge
 unfolding build
-returns-in-Refused c = rw (← c.judge.ensures, c.in-Refused.is)
+returns-in_err-judge c =
+    let at = c.in_err-judge.field-0.0 in
+    let same : c.from_residual.result ≡ Err at.why = grind arith in
+    let was = c.in_err-judge.was in
+    rw (same, ← c.judge.ensures, was)

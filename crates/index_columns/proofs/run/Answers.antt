@@ -1,5 +1,5 @@
 -- All steps from where a turn begins end where all steps of the search end. Assumes nothing.
-use mathlib.Core.Path.{refl, sym, ◌∙◌}
+use Rattle.std.proofs.Common.{◌≡◌, refl, sym, ◌∙◌, get_or, rules}
 use Rattle.index_search.proofs.Steps.{less, finish_go, finish-done}
 use Rattle.index_columns.proofs.run.Goals as goal
 
@@ -11,7 +11,8 @@ loop-t-smaller c = rw c.step-t.ensures (less _ _ c.loop-t-test.true)
 
 pub loop-t-preserved : goal.loop-t-preserved
 loop-t-preserved c =
-    rw (c.step-t.ensures, c.long_at-g.ensures, c.place-at.ensures)
+    let g : c.unwrap_or-g.result ≡ get_or c.args.granules.now c.place-at.result 0 = search rules in
+    rw (c.step-t.ensures, g, c.place-at.ensures)
     (sym (finish_go _ _ c.loop-t-test.true) ∙ c.loop-t.invariant)
 
 pub returns : goal.returns

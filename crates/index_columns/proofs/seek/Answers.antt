@@ -7,4 +7,4 @@ pub returns-then-not-are_equal : goal.returns-then-not-are_equal
 returns-then-not-are_equal c = unequal _ _ _ _ (failed c.are_equal.ensures c.if-not-are_equal.true)
 
 pub returns : goal.returns
-returns c = finds _ _ _ _ (held c.are_equal.ensures c.if-not-are_equal.false) c.seek_in-s.ensures
+returns c = finds _ _ _ _ (held c.are_equal.ensures c.if-not-are_equal.false) c.seek_in.ensures

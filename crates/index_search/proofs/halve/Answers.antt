@@ -13,10 +13,10 @@ pub returns-then-s-g : goal.returns-then-s-g
 unfolding halved
 returns-then-s-g c =
     simp
-    (lt-leb _ _ c.if-s-g.true, c.place-at.ensures, c.one_more-probes.ensures)
+    (lt-leb _ _ c.if-s-g.true, c.place-at.ensures, c.saturating_add-probes.ensures)
 
 pub returns-else-s-g : goal.returns-else-s-g
 unfolding halved
 returns-else-s-g c =
     simp
-    (le-leb _ _ c.if-s-g.false, c.place-at.ensures, c.one_more-probes.ensures)
+    (le-leb _ _ c.if-s-g.false, c.place-at.ensures, c.saturating_add-probes.ensures)

@@ -1,4 +1,5 @@
 -- `list_headers::put_both` meets its contract. Assumes nothing.
+use Rattle.std.specs.Prelude.{Result, Ok, Err}
 use mathlib.Core.Path.{◌≡◌, refl, sym, ap, ◌∙◌}
 use mathlib.Core.Bool.{true, false}
 use Rattle.octets.specs.Octets.{Bytes}
@@ -6,17 +7,16 @@ use Rattle.text_pieces.specs.declared.Pieces.{Pieces}
 use Rattle.text_pieces.specs.Pieces.{Laying, laying, lay_all, begun}
 use Rattle.text_pieces.proofs.Laying.{lay_append}
 use Rattle.refusal.specs.declared.Refusal.TheVariants.{ShortOutput}
-use Rattle.list_headers.specs.declared.HeadersWritten.TheVariants.{Bytes as Written, Refused}
 use Rattle.list_headers.specs.Text.{head_pieces}
 use Rattle.list_headers.specs.Code.{tags_found, both_found}
 use Rattle.list_headers.specs.Writing.{BothPut}
 use Rattle.list_headers.proofs.put_both.Goals as goal
 
 -- the answer by what was handed on
-whole : (l : Laying) (p : Pieces) (end : Bytes) → laying p end ≡ l → p.whole ≡ true → BothPut l (Written p.at) end
+whole : (l : Laying) (p : Pieces) (end : Bytes) → laying p end ≡ l → p.whole ≡ true → BothPut l (Ok p.at) end
 whole l p end e w = rw (← e) (record { told = rw w; output = refl })
 
-short : (l : Laying) (p : Pieces) (end : Bytes) → laying p end ≡ l → p.whole ≡ false → BothPut l (Refused ShortOutput) end
+short : (l : Laying) (p : Pieces) (end : Bytes) → laying p end ≡ l → p.whole ≡ false → BothPut l (Err ShortOutput) end
 short l p end e w = rw (← e) (record { told = rw w; output = refl })
 
 pub returns-then-p : goal.returns-then-p

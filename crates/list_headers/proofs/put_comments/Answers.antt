@@ -4,12 +4,12 @@ use mathlib.Core.Path.{◌≡◌, refl, sym, ap, ◌∙◌}
 use native.Mathlib.Omega.{arith}
 use lib.ListN.{length}
 use Rattle.octets.proofs.Copying.{length-copied}
-use Rattle.refusal.specs.Told.{gives}
+use Rattle.refusal.specs.Told.{gives, told}
 use Rattle.text_put.proofs.Putting.{put-known}
 use Rattle.text_pieces.specs.Pieces.{laying}
 use Rattle.text_pieces.proofs.Laying.{one_piece}
 use Rattle.tags_layout.specs.Layout.{bytes_of}
-use Rattle.tags_layout.specs.Finding.{find_text, told_part}
+use Rattle.tags_layout.specs.Finding.{find_text}
 use Rattle.tags_lines.specs.Lines.{comment_line}
 use Rattle.list_headers.proofs.Pieces.{some-comment}
 use Rattle.list_headers.proofs.Turns.{again, none_left, no_comments, comment-found, comment-missing, text-inside}
@@ -21,13 +21,13 @@ loop-left-init c = (refl, refl)
 pub overflow_add-place : goal.overflow_add-place
 overflow_add-place c =
     -- the part that was found
-    let found : find_text c.args.b.now c.loop-left.place ≡ gives c.in-Found.part = sym c.find_text.ensures ∙ ap told_part c.in-Found.is in
-    omega (arith, text-inside c.args.b.now c.loop-left.place c.in-Found.part found)
+    let found : find_text c.args.b.now c.loop-left.place ≡ gives c.in-Ok.part = sym c.find_text.ensures ∙ ap told c.in-Ok.is in
+    omega (arith, text-inside c.args.b.now c.loop-left.place c.in-Ok.part found)
 
-pub returns-in-Refused : goal.returns-in-Refused
-returns-in-Refused c =
+pub returns-in-Err : goal.returns-in-Err
+returns-in-Err c =
     let a = c.args in
-    let refused = sym c.find_text.ensures ∙ ap told_part c.in-Refused.is in
+    let refused = sym c.find_text.ensures ∙ ap told c.in-Err.is in
     none_left _ _ _ (comment-missing a.b.now c.loop-left.left c.loop-left.place _ c.loop-left-test.true refused)
     c.loop-left.invariant.0
 
@@ -39,10 +39,10 @@ loop-left-smaller c = omega arith
 
 pub loop-left-preserved : goal.loop-left-preserved
 loop-left-preserved c =
-    let found : find_text c.args.b.now c.loop-left.place ≡ gives c.in-Found.part = sym c.find_text.ensures ∙ ap told_part c.in-Found.is in
+    let found : find_text c.args.b.now c.loop-left.place ≡ gives c.in-Ok.part = sym c.find_text.ensures ∙ ap told c.in-Ok.is in
     let a = c.args in
     let b = a.b.now in
-    let part = c.in-Found.part in
+    let part = c.in-Ok.part in
     let line = comment_line (bytes_of b part) in
     let known = put-known (ap comment_line c.part_of-comment.ensures) c.put_comment.ensures in
     let moved = one_piece c.loop-left.p line (some-comment (bytes_of b part)) c.after-p.ensures known in

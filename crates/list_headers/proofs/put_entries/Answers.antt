@@ -1,5 +1,6 @@
 -- `list_headers::put_entries` meets its contract. The loop's invariant: what is left makes the same of what was put. Assumes
 -- nothing.
+use Rattle.refusal.specs.Told.{told}
 use mathlib.Core.Path.{◌≡◌, refl, sym, ap, ◌∙◌}
 use native.Mathlib.Omega.{arith}
 use borrow.Author.Rules.{rules}
@@ -10,7 +11,6 @@ use Rattle.octets.proofs.Copying.{length-copied}
 use Rattle.text_put.proofs.Putting.{put-known}
 use Rattle.text_pieces.specs.Pieces.{laying}
 use Rattle.text_pieces.proofs.Laying.{one_piece}
-use Rattle.head_matrix.specs.Matrix.{told_entry}
 use Rattle.head_lines.specs.Lines.{entry_text}
 use Rattle.list_headers.proofs.Pieces.{some-entry_text}
 use Rattle.list_headers.proofs.Turns.{again, none_left, no_entries, entry_next, entry-none}
@@ -19,10 +19,10 @@ use Rattle.list_headers.proofs.put_entries.Goals as goal
 pub loop-left-init : goal.loop-left-init
 loop-left-init c = (refl, (omega arith, refl))
 
-pub returns-in-Refused : goal.returns-in-Refused
-returns-in-Refused c =
+pub returns-in-Err : goal.returns-in-Err
+returns-in-Err c =
     let a = c.args in
-    let refused = sym c.entry_at.ensures ∙ ap told_entry c.in-Refused.is in
+    let refused = sym c.entry_at.ensures ∙ ap told c.in-Err.is in
     none_left _ _ _ (entry-none a.m.now c.loop-left.left c.loop-left.i _ c.loop-left-test.true refused) c.loop-left.invariant.0
 
 pub overflow_sub-left : goal.overflow_sub-left
@@ -37,11 +37,11 @@ loop-left-smaller c = omega arith
 pub loop-left-preserved : goal.loop-left-preserved
 loop-left-preserved c =
     let a = c.args in
-    let x = c.in-Entry.x in
+    let x = c.in-Ok.x in
     let kept : to_z w16 (of_z w16 x) ≡ x = search rules in
     let known = put-known (ap entry_text kept) c.put_entry.ensures in
     let moved = one_piece c.loop-left.p (entry_text x) (some-entry_text x) c.after-p.ensures known in
-    let told = sym c.entry_at.ensures ∙ ap told_entry c.in-Entry.is in
+    let told = sym c.entry_at.ensures ∙ ap told c.in-Ok.is in
     let next = entry_next a.m.now c.loop-left.left c.loop-left.i x c.loop-left-test.true told in
     let size = ap length known.output ∙ length-copied c.loop-left.out c.loop-left.p.at (entry_text x) in (
       again (laying c.loop-left.p c.loop-left.out) _ _ (entry_text x) _ _ moved next c.loop-left.invariant.0,

@@ -1,34 +1,41 @@
 -- `list_headers::write_headers` meets its contract: the first packet that is refused decides. Assumes nothing.
+use native.Mathlib.Omega.{arith}
+use Rattle.refusal.specs.declared.Refusal.{Refusal}
+use Rattle.std.specs.Prelude.{⊤, Result, Ok, Err}
+use Rattle.refusal.specs.Told.{told}
 use mathlib.Core.Path.{◌≡◌, sym, ap, ◌∙◌}
 use Rattle.octets.specs.Octets.{Bytes}
-use Rattle.head_reader.specs.declared.Verdict.{Verdict}
-use Rattle.head_reader.specs.declared.Verdict.TheVariants.{Right, Refused}
 use Rattle.head_reader.specs.declared.HeadRead.{HeadRead}
 use Rattle.head_reader.specs.Reading.{read_head, told_by, HeadIs}
-use Rattle.tags_reader.specs.Reading.{told_count}
 use Rattle.list_headers.proofs.Answers.{head-refused, tags-refused, both_read}
 use Rattle.list_headers.proofs.write_headers.Goals as goal
 
 -- what the reading of the first packet told, by its verdict v
-told : (b : Bytes) (r : HeadRead) (v : Verdict) → HeadIs b r → r.verdict ≡ v → read_head b ≡ told_by v r.head
-told b r v h e = sym h.told ∙ ap (λ (w : Verdict). told_by w r.head) e
+verdict-told : (b : Bytes) (r : HeadRead) (v : Result ⊤ Refusal) → HeadIs b r → r.verdict ≡ v → read_head b ≡ told_by v r.head
+verdict-told b r v h e = sym h.told ∙ ap (λ (w : Result ⊤ Refusal). told_by w r.head) e
 
-pub returns-in-Count : goal.returns-in-Count
-returns-in-Count c =
+pub returns : goal.returns
+returns c =
     let a = c.args in
-    both_read a.head.now a.tags.now a.out.now c.read_head-read.result.head (told _ _ Right c.read_head-read.ensures c.in-Right.is)
-    _ c.in-Count.n c.put_both.result _ c.matrix.ensures
-    (sym c.read_tags.ensures ∙ ap told_count c.in-Count.is) c.put_both.ensures
+    both_read a.head.now a.tags.now a.out.now c.read_head-read.result.head (verdict-told _ _ (Ok tt) c.read_head-read.ensures c.in_ok-read.was)
+    _ c.in_ok-n.n c.put_both.result _ c.matrix.ensures
+    (sym c.read_tags.ensures ∙ ap told c.in_ok-n.was) c.put_both.ensures
 
-pub returns-in-Refused-read_tags : goal.returns-in-Refused-read_tags
-returns-in-Refused-read_tags c =
+pub returns-in_err-n : goal.returns-in_err-n
+returns-in_err-n c =
     let a = c.args in
-    tags-refused a.head.now a.tags.now a.out.now c.read_head-read.result.head
-    (told _ _ Right c.read_head-read.ensures c.in-Right.is) c.in-Refused-read_tags.why
-    (sym c.read_tags.ensures ∙ ap told_count c.in-Refused-read_tags.is)
+    let why = c.in_err-n.field-0.0 in
+    let same : c.from_residual-in_err-n.result ≡ Err why = grind arith in
+    rw same
+    (tags-refused a.head.now a.tags.now a.out.now c.read_head-read.result.head
+    (verdict-told _ _ (Ok tt) c.read_head-read.ensures c.in_ok-read.was) why
+    (sym c.read_tags.ensures ∙ ap told c.in_err-n.was))
 
-pub returns-in-Refused : goal.returns-in-Refused
-returns-in-Refused c =
+pub returns-in_err-read : goal.returns-in_err-read
+returns-in_err-read c =
     let a = c.args in
-    head-refused a.head.now a.tags.now a.out.now c.in-Refused.why
-    (told _ _ (Refused c.in-Refused.why) c.read_head-read.ensures c.in-Refused.is)
+    let why = c.in_err-read.field-0.0 in
+    let same : c.from_residual.result ≡ Err why = grind arith in
+    rw same
+    (head-refused a.head.now a.tags.now a.out.now why
+    (verdict-told _ _ (Err why) c.read_head-read.ensures c.in_err-read.was))

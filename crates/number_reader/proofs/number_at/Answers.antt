@@ -1,11 +1,11 @@
--- `number_reader::number_at` meets its contract. The loop's invariant: x is the number in the last j bytes. Assumes nothing.
+-- `number_reader::number_at` meets its contract. The loop's invariant: x is the number in the bytes from the i-th on. Assumes nothing.
 use mathlib.Core.Path.{◌≡◌, refl, sym, ap, ◌∙◌}
 use mathlib.Core.List.{[]}
 use Prim.Native.Nat.{ℕ, suc, ◌+◌, ◌*◌, ◌-◌, ◌^◌, ◌<◌}
 use native.Mathlib.Nat.{pow-suc, pow-le-pow_right, one-le-pow, lt_of_lt_of_le}
 use native.Mathlib.Numerals.{add-one}
 use native.Mathlib.Omega.{arith}
-use lib.ListN.{get_or, take, drop, drop_of_length-le}
+use lib.ListN.{take, drop, drop_of_length-le}
 use lib.Seq.{take-nil}
 use Rattle.octets.specs.Numbers.{value, number}
 use Rattle.octets.proofs.Numbers.{value-more}
@@ -23,50 +23,34 @@ returns-then-s-at c =
     let e : take a.n (drop a.at a.s.now) ≡ [] = ap (take a.n) none ∙ take-nil a.n in
     record { number = sym (ap value e); below = one-le-pow a.n 256 (omega arith) }
 
-pub loop-j-init : goal.loop-j-init
+pub loop-i-init : goal.loop-i-init
 unfolding value
-loop-j-init c = (refl, omega arith, omega arith)
-
-pub overflow_sub-n : goal.overflow_sub-n
-overflow_sub-n c = omega arith
-
-pub overflow_sub-n-in-loop-j : goal.overflow_sub-n-in-loop-j
-overflow_sub-n-in-loop-j c = omega arith
-
-pub overflow_add-at : goal.overflow_add-at
-overflow_add-at c = omega arith
+loop-i-init c = let e : c.args.n - c.args.n ≡ 0 = omega arith in rw e (refl, omega arith)
 
 pub overflow_mul-x : goal.overflow_mul-x
-overflow_mul-x c = let l = c.loop-j in omega (arith, room l.invariant.1 (omega arith))
+overflow_mul-x c = let l = c.loop-i in omega (arith, room l.invariant.1 (omega arith))
 
 pub overflow_add-x : goal.overflow_add-x
-overflow_add-x c = let l = c.loop-j in omega (arith, room l.invariant.1 (omega arith))
+overflow_add-x c = let l = c.loop-i in omega (arith, room l.invariant.1 (omega arith))
 
-pub overflow_step-j : goal.overflow_step-j
-overflow_step-j c = omega arith
-
-pub loop-j-smaller : goal.loop-j-smaller
-loop-j-smaller c = omega arith
-
-pub loop-j-preserved : goal.loop-j-preserved
-loop-j-preserved c =
+pub loop-i-preserved : goal.loop-i-preserved
+loop-i-preserved c =
     let a = c.args in
-    let l = c.loop-j in
-    let p : ℕ = 256 ^ l.j in
-    let q : ℕ = a.at + (a.n - (l.j + 1)) in
-    let here : a.at + (a.n - 1 - l.j) ≡ q = omega arith in
-    let next : a.at + (a.n - l.j) ≡ suc q = omega arith in
-    let more : 256 ^ (l.j + 1) ≡ p * 256 = rw add-one (pow-suc 256 l.j) in
-    let byte : c.wide.result ≡ get_or a.s.now q 0 = c.wide.ensures.same ∙ c.byte_at-b.ensures ∙ ap (λ (i : ℕ). get_or a.s.now i 0) here in
-    let rest : l.x ≡ value (take l.j (drop (suc q) a.s.now)) = rw next at l.invariant.0 in
-    let step = value-more a.s.now q l.j l.x rest in
-    (omega arith, omega arith, omega arith)
+    let l = c.loop-i in
+    let j : ℕ = a.n - l.i in
+    let q : ℕ = a.at + (l.i - 1) in
+    let one : a.n - (l.i - 1) ≡ j + 1 = omega arith in
+    let next : a.at + l.i ≡ suc q = omega arith in
+    let more : 256 ^ (j + 1) ≡ 256 ^ j * 256 = rw add-one (pow-suc 256 j) in
+    let rest : l.x ≡ value (take j (drop (suc q) a.s.now)) = rw next at l.invariant.0 in
+    let step = value-more a.s.now q j l.x rest in
+    rw one (omega arith, omega arith)
 
 pub returns : goal.returns
 unfolding number
 returns c =
     let a = c.args in
-    let l = c.loop-j in
-    let all : l.j ≡ a.n = omega arith in
-    let none : a.at + (a.n - a.n) ≡ a.at = omega arith in
-    record { number = rw (all, none) at l.invariant.0; below = rw all at l.invariant.1 }
+    let l = c.loop-i in
+    let all : a.n - l.i ≡ a.n = omega arith in
+    let whole : a.at + l.i ≡ a.at = omega arith in
+    record { number = rw (all, whole) at l.invariant.0; below = rw all at l.invariant.1 }

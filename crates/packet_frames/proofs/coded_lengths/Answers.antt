@@ -15,36 +15,31 @@ loop-i-init c =
 pub coded_length-requires : goal.coded_length-requires
 coded_length-requires c = tt
 
-pub returns-in_default : goal.returns-in_default
-returns-in_default c =
+pub returns-in_err-length : goal.returns-in_err-length
+returns-in_err-length c =
     let l = c.loop-i in
     let a = c.args in
-    let none = missing a.s.now frame_max c.in_default.is c.coded_length.ensures in
-    record {
-      told = sym (times_cut a.n l.i l.sum (drop l.place a.s.now) c.loop-i-test.true none) ∙ l.invariant.0;
+    let none = missing a.s.now frame_max c.in_err-length.was c.coded_length.ensures in
+    rw c.from_residual.ensures
+    (record {
+      told = sym (times_cut a.n l._i l.sum (drop l.place a.s.now) c.loop-i-test.true none) ∙ l.invariant.0;
       within = tt;
-    }
+    })
 
 pub overflow_add-sum : goal.overflow_add-sum
 overflow_add-sum c =
     let a = c.args in
-    let one = found a.s.now frame_max c.in-Value.is c.coded_length.ensures in
+    let one = found a.s.now frame_max c.in_ok-length.was c.coded_length.ensures in
     omega arith
-
-pub overflow_add-i : goal.overflow_add-i
-overflow_add-i c = omega arith
-
-pub loop-i-smaller : goal.loop-i-smaller
-loop-i-smaller c = omega arith
 
 pub loop-i-preserved : goal.loop-i-preserved
 loop-i-preserved c =
-    let got = c.in-Value in
+    let got = c.in_ok-length in
     let l = c.loop-i in
     let a = c.args in
     let s = a.s.now in
-    let one = found s frame_max got.is c.coded_length.ensures in (
-      sym (times_more a.n l.i l.sum got.length (drop l.place s) (drop got.next s) c.loop-i-test.true one.told) ∙ l.invariant.0,
+    let one = found s frame_max got.was c.coded_length.ensures in (
+      sym (times_more a.n l._i l.sum got.length.value (drop l.place s) (drop got.length.next s) c.loop-i-test.true one.told) ∙ l.invariant.0,
       omega arith,
       one.within.inside,
       omega arith,
@@ -55,6 +50,6 @@ returns c =
     let l = c.loop-i in
     let a = c.args in
     record {
-      told = sym (times-done a.n l.i l.sum (drop l.place a.s.now) c.loop-i-test.false) ∙ l.invariant.0;
+      told = sym (times-done a.n l._i l.sum (drop l.place a.s.now) c.loop-i-test.false) ∙ l.invariant.0;
       within = omega arith;
     }

@@ -9,8 +9,5 @@ use Rattle.packet_frames.proofs.CodedLengths.{plus}
 use Rattle.packet_frames.proofs.coded_lengths.Given as goal
 
 abbrev pub invariant-loop-i : goal.invariant-loop-i
-invariant-loop-i l = (plus l.sum (coded_times (l.n - l.i) (drop l.place l.s)) ≡ summed (coded_times l.n (drop l.at l.s)))
-    × (l.sum ≤ frame_max * l.i) × (l.place ≤ length l.s) × (l.i ≤ l.n)
-
-abbrev pub decreases-loop-i : goal.decreases-loop-i
-decreases-loop-i l = l.n - l.i
+invariant-loop-i l = (plus l.sum (coded_times (l.n - l._i) (drop l.place l.s)) ≡ summed (coded_times l.n (drop l.at l.s)))
+    × (l.sum ≤ frame_max * l._i) × (l.place ≤ length l.s) × (l._i ≤ l.n)

@@ -13,14 +13,7 @@ use Rattle.packet_toc.proofs.Samples.{frame-length}
 use Rattle.packet_frames.proofs.Samples.{product}
 use Rattle.packet_frames.proofs.Shapes.{some, bounded, no_count, no_frames, too_much, unpadded, with_padding, padded_by}
 use Rattle.packet_frames.proofs.counted_layout.Goals as goal
-use Rattle.packet_frames.proofs.counted_layout.Lts as lts
-use Rattle.packet_frames.proofs.counted_layout.Tie as tie
-
-abbrev After-frame_samples-samples : Type 0
-After-frame_samples-samples = lts.After-frame_samples tie.the-claims tie.handed_pre tie.handed_post
-
-abbrev After-padding_length : Type 0
-After-padding_length = lts.After-padding_length tie.the-claims tie.handed_pre tie.handed_post
+use Rattle.packet_frames.proofs.counted_layout.Goals.{After-frame_samples-samples, After-padding_length}
 
 -- the count byte and the frame's samples, where both are known
 module _ (c : After-frame_samples-samples) where
@@ -40,7 +33,7 @@ over_by e g h = rw (e, g) at h
 -- the padding as it was found
 module _ (c : After-padding_length) where
   abbrev counted : After-frame_samples-samples
-  counted = c.before.before.before.before
+  counted = (goal.at.After-padding_length c).After-frame_samples-samples
 
   found : {r : Read ℕ} → told_found (packet counted) c.padding_length.result ≡ r
       → padded_by (length (packet counted)) (count_of (get_or (packet counted) 1 0)) (is_variable (get_or (packet counted) 1 0)) r
@@ -48,58 +41,58 @@ module _ (c : After-padding_length) where
   found e =
       rw (← e, c.padding_length.ensures.told)
       (sym
-      (with_padding (length (packet counted)) (packet counted) (long counted) (rw (byte counted) at c.if-count-eq0.false)
-      (bounded (byte counted) counted.frame_samples-samples.ensures c.if-count-samples-gt-SAMPLES_MAX.false) (rw (byte counted) at c.if-c-ne1.false)))
+      (with_padding (length (packet counted)) (packet counted) (long counted) (rw (byte counted) at c.if-empty.false)
+      (bounded (byte counted) counted.frame_samples-samples.ensures c.if-over.false) (rw (byte counted) at c.if-c-ne1.false)))
 
 pub returns-then-s-lt2 : goal.returns-then-s-lt2
 returns-then-s-lt2 c = let s = c.args.s.now in record { told = sym (no_count (length s) s c.if-s-lt2.true); sound = tt }
 
-pub returns-then-count-eq0 : goal.returns-then-count-eq0
-returns-then-count-eq0 c =
-    let f = c.before.before in
-    record { told = sym (no_frames (length (packet f)) (packet f) (long f) (rw (byte f) at c.if-count-eq0.true)); sound = tt }
+pub returns-then-empty : goal.returns-then-empty
+returns-then-empty c =
+    let f = (goal.at.returns-then-empty c).After-frame_samples-samples in
+    record { told = sym (no_frames (length (packet f)) (packet f) (long f) (rw (byte f) at c.if-empty.true)); sound = tt }
 
-pub overflow_mul-count : goal.overflow_mul-count
-overflow_mul-count c =
-    let f = c.before.before in
+pub overflow_mul-over : goal.overflow_mul-over
+overflow_mul-over c =
+    let f = (goal.at.overflow_mul-over c).After-frame_samples-samples in
     record { fits = lt_of_le_of_lt (product (omega arith) (rw (← f.frame_samples-samples.ensures) at (frame-length (get_or (packet f) 0 0)).most)) (lit< tt) }
 
-pub returns-then-count-samples-gt-SAMPLES_MAX : goal.returns-then-count-samples-gt-SAMPLES_MAX
-returns-then-count-samples-gt-SAMPLES_MAX c =
-    let f = c.before.before.before in
+pub returns-then-over : goal.returns-then-over
+returns-then-over c =
+    let f = (goal.at.returns-then-over c).After-frame_samples-samples in
     record {
       told =
           sym
-          (too_much (length (packet f)) (packet f) (long f) (rw (byte f) at c.if-count-eq0.false)
-          (over_by (byte f) f.frame_samples-samples.ensures c.if-count-samples-gt-SAMPLES_MAX.true));
+          (too_much (length (packet f)) (packet f) (long f) (rw (byte f) at c.if-empty.false)
+          (over_by (byte f) f.frame_samples-samples.ensures c.if-over.true));
       sound = tt;
     }
 
 pub returns-then-c-ne1 : goal.returns-then-c-ne1
 returns-then-c-ne1 c =
-    let f = c.before.before.before.before in
+    let f = (goal.at.returns-then-c-ne1 c).After-frame_samples-samples in
     record {
       told =
           rw (byte f)
           (sym
-          (unpadded (length (packet f)) (packet f) (long f) (rw (byte f) at c.if-count-eq0.false)
-          (bounded (byte f) f.frame_samples-samples.ensures c.if-count-samples-gt-SAMPLES_MAX.false) (rw (byte f) at c.if-c-ne1.true)));
-      sound = record { some = some c.if-count-eq0.false; few = omega arith; padding = omega arith; inside = long f };
+          (unpadded (length (packet f)) (packet f) (long f) (rw (byte f) at c.if-empty.false)
+          (bounded (byte f) f.frame_samples-samples.ensures c.if-over.false) (rw (byte f) at c.if-c-ne1.true)));
+      sound = record { some = some c.if-empty.false; few = omega arith; padding = omega arith; inside = long f };
     }
 
-pub returns-in_default : goal.returns-in_default
-returns-in_default c =
-    let p = c.before.before in
-    record { told = found p (ap (told_found (packet (counted p))) c.in_default.is); sound = tt }
+pub returns-in_err-padding : goal.returns-in_err-padding
+returns-in_err-padding c =
+    let p = (goal.at.returns-in_err-padding c).After-padding_length in
+    rw c.from_residual.ensures (record { told = found p (ap (told_found (packet (counted p))) c.in_err-padding.was); sound = tt })
 
 pub returns : goal.returns
 returns c =
-    let p = c.before.before in
+    let p = (goal.at.returns c).After-padding_length in
     let f = counted p in
-    let e = c.in-Value.is in
+    let e = c.in_ok-padding.was in
     let within = rw e at p.padding_length.ensures.within in
     record {
       told = rw (byte f) (found p (ap (told_found (packet f)) e));
       sound =
-          record { some = some p.if-count-eq0.false; few = omega arith; padding = within.most; inside = within.inside };
+          record { some = some p.if-empty.false; few = omega arith; padding = within.most; inside = within.inside };
     }

@@ -1,6 +1,7 @@
 -- `packet_frames::packet_frames` meets its contract: by how the frames lie. Assumes nothing.
-use mathlib.Core.Path.{◌≡◌, sym, ap, ◌∙◌}
-use mathlib.Core.Bool.{Bool, true, false}
+use Rattle.std.specs.Prelude.{Option}
+use mathlib.Core.Path.{◌≡◌, refl, sym, ap, ◌∙◌}
+use mathlib.Core.Bool.{Bool}
 use lib.ListN.{drop}
 use Rattle.octets.specs.Octets.{Bytes}
 use Rattle.packet_frames.specs.declared.Layout.{Layout}
@@ -9,74 +10,81 @@ use Rattle.packet_frames.specs.Packet.{parse}
 use Rattle.packet_frames.specs.Code.{plain, told_layout, FramesIn, frames_in, Outline, outline}
 use Rattle.packet_frames.proofs.Outlines.{outlined}
 use Rattle.packet_frames.proofs.packet_frames.Goals as goal
-use Rattle.packet_frames.proofs.packet_frames.Lts as lts
-use Rattle.packet_frames.proofs.packet_frames.Tie as tie
+use Rattle.packet_frames.proofs.packet_frames.Goals.{In_ok-layout}
 
-abbrev In-Frames : Type 0
-In-Frames = lts.Past-After-known_told tie.the-claims tie.handed_pre tie.handed_post
-
--- what is known of the layout where its fields are bound
-module _ (c : In-Frames) where
+-- what is known of the layout that was found
+module _ (c : In_ok-layout) where
   abbrev packet : Bytes
   packet = c.args.s.now
 
-  sound : FramesIn packet c.in-Frames.count c.in-Frames.padding c.in-Frames.at
-  sound = rw c.in-Frames.is at c.layout_of-layout.ensures.sound
+  abbrev layout : Layout
+  layout = c.in_ok-layout.layout
 
-  frames : (self : Bool) → frames_in self (told_layout packet c.layout_of-layout.result) ≡ outline (parse self packet)
-  frames self = ap (frames_in self) c.layout_of-layout.ensures.told ∙ sym (outlined self packet)
+  sound : FramesIn packet layout.count layout.padding layout.at
+  sound = rw c.in_ok-layout.was at c.layout_of.ensures.sound
 
-  -- a packet that is not self-delimited, with lengths of their own or not
-  plainly : {delimited vary : Bool} {x : Read Outline} → delimited ≡ false → c.in-Frames.vary ≡ vary
-      → x ≡ frames_in false (plain c.in-Frames.count vary c.in-Frames.padding (drop c.in-Frames.at packet))
+  frames : (self : Bool) → frames_in self (told_layout packet c.layout_of.result) ≡ outline (parse self packet)
+  frames self = ap (frames_in self) c.layout_of.ensures.told ∙ sym (outlined self packet)
+
+  -- a packet by how its frames lie, with lengths of their own or not
+  by_layout : {delimited self vary : Bool} {x : Read Outline} → delimited ≡ self → layout.vary ≡ vary
+      → x ≡ frames_in self (plain layout.count vary layout.padding (drop layout.at packet))
       → x ≡ outline (parse delimited packet)
-  plainly d v e =
+  by_layout {delimited} {self} d v e =
       e
-      ∙ ap (λ (w : Bool). frames_in false (plain c.in-Frames.count w c.in-Frames.padding (drop c.in-Frames.at packet))) (sym v)
-      ∙ ap (λ (q : Layout). frames_in false (told_layout packet q)) (sym c.in-Frames.is)
-      ∙ frames false
-      ∙ ap (λ (self : Bool). outline (parse self packet)) (sym d)
+      ∙ ap (λ (w : Bool). frames_in self (plain layout.count w layout.padding (drop layout.at packet))) (sym v)
+      ∙ ap (λ (q : Option Layout). frames_in self (told_layout packet q)) (sym c.in_ok-layout.was)
+      ∙ frames self
+      ∙ ap (λ (t : Bool). outline (parse t packet)) (sym d)
 
 pub delimited_frames-requires : goal.delimited_frames-requires
-delimited_frames-requires c = let k = sound c.before.before in record { few = k.few; inside = k.inside }
+delimited_frames-requires c =
+    let k = sound (goal.at.delimited_frames-requires c).In_ok-layout in
+    record { few = k.few; inside = k.inside }
 
 pub returns-then-delimited : goal.returns-then-delimited
 returns-then-delimited c =
-    let l = c.before.before.before in
+    let call = c.delimited_frames.ensures in
     record {
-      told =
-          c.delimited_frames.ensures.told
-          ∙ ap (λ (x : Layout). frames_in true (told_layout (packet l) x)) (sym l.in-Frames.is)
-          ∙ frames l true ∙ ap (λ (self : Bool). outline (parse self (packet l))) (sym c.if-delimited.true);
-      within = c.delimited_frames.ensures.within;
+      told = by_layout (goal.at.returns-then-delimited c).In_ok-layout c.if-delimited.true refl call.told;
+      within = call.within;
     }
 
 pub varied_frames-requires : goal.varied_frames-requires
-varied_frames-requires c = let k = sound c.before.before.before in record { some = k.some; few = k.few; inside = k.inside }
+varied_frames-requires c =
+    let k = sound (goal.at.varied_frames-requires c).In_ok-layout in
+    record { some = k.some; few = k.few; inside = k.inside }
 
-pub returns-then-vary : goal.returns-then-vary
-returns-then-vary c =
-    let l = c.before.before.before.before in
+pub returns-then-layout : goal.returns-then-layout
+returns-then-layout c =
     let call = c.varied_frames.ensures in
-    record { told = plainly l c.if-delimited.false c.if-vary.true call.told; within = call.within }
-
-pub equal_frames-requires : goal.equal_frames-requires
-equal_frames-requires c = let k = sound c.before.before.before in record { some = k.some; few = k.few; inside = k.inside }
-
-pub returns-in-Illegal : goal.returns-in-Illegal
-returns-in-Illegal c =
-    let s = c.args.s.now in
-    let d = c.args.delimited in
-    let call = c.layout_of-layout in
     record {
-      told =
-          ap (λ (x : Layout). frames_in d (told_layout s x)) (sym c.in-Illegal.is) ∙ ap (frames_in d) call.ensures.told
-          ∙ sym (outlined d s);
-      within = tt;
+      told = by_layout (goal.at.returns-then-layout c).In_ok-layout c.if-delimited.false c.if-layout.true call.told;
+      within = call.within;
     }
 
-pub returns-else-vary : goal.returns-else-vary
-returns-else-vary c =
-    let l = c.before.before.before.before in
+pub equal_frames-requires : goal.equal_frames-requires
+equal_frames-requires c =
+    let k = sound (goal.at.equal_frames-requires c).In_ok-layout in
+    record { some = k.some; few = k.few; inside = k.inside }
+
+pub returns-in_err-layout : goal.returns-in_err-layout
+returns-in_err-layout c =
+    let s = c.args.s.now in
+    let d = c.args.delimited in
+    let call = c.layout_of in
+    rw c.from_residual.ensures
+    (record {
+      told =
+          ap (λ (x : Option Layout). frames_in d (told_layout s x)) (sym c.in_err-layout.was) ∙ ap (frames_in d) call.ensures.told
+          ∙ sym (outlined d s);
+      within = tt;
+    })
+
+pub returns : goal.returns
+returns c =
     let call = c.equal_frames.ensures in
-    record { told = plainly l c.if-delimited.false c.if-vary.false call.told; within = call.within }
+    record {
+      told = by_layout (goal.at.returns c).In_ok-layout c.if-delimited.false c.if-layout.false call.told;
+      within = call.within;
+    }

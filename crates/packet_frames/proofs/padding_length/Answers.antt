@@ -5,21 +5,15 @@ use native.Mathlib.Omega.{arith}
 use lib.ListN.{length}
 use Rattle.packet_frames.specs.Code.{padding_in}
 use Rattle.packet_frames.proofs.CodedLengths.{Padding, padding-cut, padding-ends, padding-over, padding-goes_on, padding-above}
-use Rattle.packet_frames.proofs.padding_length.Lts as lts
-use Rattle.packet_frames.proofs.padding_length.Tie as tie
 use Rattle.packet_frames.proofs.padding_length.Goals as goal
-use Rattle.packet_frames.proofs.padding_length.Lts as lts
-use Rattle.packet_frames.proofs.padding_length.Tie as tie
-
-abbrev After-wide-v : Type 0
-After-wide-v = lts.After-wide tie.the-claims tie.handed_pre tie.handed_post goal.the-invariant-loop-place goal.the-decreases-loop-place
+use Rattle.packet_frames.proofs.padding_length.Goals.{After-wide-v}
 
 turn : (w : After-wide-v)
-    → let l = w.before.before.before.loop-place in
-    let a = w.before.before.before.before.before.args in
+    → let l = w.loop-place in
+    let a = w.args in
     let s = a.s.now in
     Padding s (padding_in s a.at) l.bytes l.place w.wide-v.result
-turn w = record { inside = w.before.before.loop-place-test.true; byte = w.wide-v.ensures.same; left = w.before.before.before.loop-place.invariant.0 }
+turn w = record { inside = w.loop-place-test.true; byte = w.wide-v.ensures.same; left = w.loop-place.invariant.0 }
 
 pub loop-place-init : goal.loop-place-init
 loop-place-init c = (refl, omega arith)
@@ -30,32 +24,26 @@ bounds-s-place c = omega arith
 pub wide-v-requires : goal.wide-v-requires
 wide-v-requires c = tt
 
-pub overflow_add-place : goal.overflow_add-place
-overflow_add-place c = omega arith
-
 pub overflow_add-bytes : goal.overflow_add-bytes
 overflow_add-bytes c = omega arith
 
 pub returns-then-s-bytes : goal.returns-then-s-bytes
-returns-then-s-bytes c = record { told = padding-over (turn c.before.before.before) c.if-v-lt255.true c.if-s-bytes.true; within = tt }
+returns-then-s-bytes c = record { told = padding-over (turn (goal.at.returns-then-s-bytes c).After-wide-v) c.if-v-lt255.true c.if-s-bytes.true; within = tt }
 
 pub overflow_add-result : goal.overflow_add-result
 overflow_add-result c = omega arith
 
 pub returns-then-v-lt255 : goal.returns-then-v-lt255
-returns-then-v-lt255 c = record { told = padding-ends (turn c.before.before.before) c.if-v-lt255.true c.if-s-bytes.false; within = omega arith }
+returns-then-v-lt255 c = record { told = padding-ends (turn (goal.at.returns-then-v-lt255 c).After-wide-v) c.if-v-lt255.true c.if-s-bytes.false; within = omega arith }
 
 pub overflow_add-bytes-in-loop-place : goal.overflow_add-bytes-in-loop-place
 overflow_add-bytes-in-loop-place c = omega arith
 
 pub returns-then-s-bytes-2 : goal.returns-then-s-bytes-2
-returns-then-s-bytes-2 c = record { told = padding-above (turn c.before.before.before) c.if-v-lt255.false c.if-s-bytes-2.true; within = tt }
-
-pub loop-place-smaller : goal.loop-place-smaller
-loop-place-smaller c = omega arith
+returns-then-s-bytes-2 c = record { told = padding-above (turn (goal.at.returns-then-s-bytes-2 c).After-wide-v) c.if-v-lt255.false c.if-s-bytes-2.true; within = tt }
 
 pub loop-place-preserved : goal.loop-place-preserved
-loop-place-preserved c = (padding-goes_on (turn c.before.before.before) c.if-v-lt255.false, c.if-s-bytes-2.false)
+loop-place-preserved c = (padding-goes_on (turn (goal.at.loop-place-preserved c).After-wide-v) c.if-v-lt255.false, c.if-s-bytes-2.false)
 
 pub returns : goal.returns
 returns c =

@@ -12,46 +12,33 @@ use Rattle.packet_reader.specs.declared.Contents.{Contents}
 use Rattle.packet_reader.specs.Code.{made_of}
 use Rattle.packet_reader.proofs.Agreement.{unframed, frames-told, frames-within, no_contents_lem, its_contents}
 use Rattle.packet_reader.proofs.read_opus.Goals as goal
-use Rattle.packet_reader.proofs.read_opus.Lts as lts
-use Rattle.packet_reader.proofs.read_opus.Tie as tie
+use Rattle.packet_reader.proofs.read_opus.Goals.{In_ok-framed}
 
-abbrev Arm : Type 0
-Arm = lts.Past-After-known_told tie.the-claims tie.handed_pre tie.handed_post
+within : (c : In_ok-framed) → let got = c.in_ok-framed.framed in ValueIn c.args.s.now 63 got.count got.next
+within c = frames-within c.args.s.now c.packet_frames.ensures c.in_ok-framed.was
 
--- the frames that were found
-module _ (c : Arm) where
-  abbrev first : lts.After-byte_at tie.the-claims tie.handed_pre tie.handed_post
-  first = c.before.before
-
-  abbrev packet : Bytes
-  packet = first.args.s.now
-
-  within : ValueIn packet 63 c.in-Frames.count c.in-Frames.next
-  within = frames-within packet c.packet_frames.ensures c.in-Frames.is
-
-pub returns-in_default : goal.returns-in_default
-returns-in_default c =
+pub returns-in_err-framed : goal.returns-in_err-framed
+returns-in_err-framed c =
     let a = c.args in
-    let none = unframed a.s.now c.packet_frames.ensures c.in_default.is in
-    record { told = no_contents_lem a.s.now (parse a.delimited a.s.now) none; inside = tt }
+    let none = unframed a.s.now c.packet_frames.ensures c.in_err-framed.was in
+    rw c.from_residual.ensures (record { told = no_contents_lem a.s.now (parse a.delimited a.s.now) none; inside = tt })
 
-pub overflow_cast-count : goal.overflow_cast-count
-overflow_cast-count c = record { fits = lt_of_le_of_lt (within c.before).most (lit< tt) }
+pub overflow_cast-framed : goal.overflow_cast-framed
+overflow_cast-framed c = record { fits = lt_of_le_of_lt (within (goal.at.overflow_cast-framed c).In_ok-framed).most (lit< tt) }
 
 pub made_of-requires : goal.made_of-requires
-made_of-requires c = (within c.before).most
+made_of-requires c = (within (goal.at.made_of-requires c).In_ok-framed).most
 
 pub returns : goal.returns
 returns c =
-    let k = c.before.before in
-    let a = (first k).args in
-    let got = k.in-Frames in
-    let end : Bytes = drop got.next (packet k) in
-    let told = frames-told (packet k) k.packet_frames.ensures got.is in
+    let a = c.args in
+    let s = a.s.now in
+    let got = c.in_ok-framed.framed in
+    let end : Bytes = drop got.next s in
     record {
       told =
           ap (λ (x : Contents). value x end)
-          (c.made_of.ensures ∙ ap (λ (toc : ℕ). made_of toc got.count got.silent) (first k).byte_at-toc.ensures)
-          ∙ its_contents (packet k) (parse a.delimited (packet k)) _ end told;
-      inside = (within k).inside;
+          (c.made_of.ensures ∙ ap (λ (toc : ℕ). made_of toc got.count got.silent) c.byte_at-toc.ensures)
+          ∙ its_contents s (parse a.delimited s) _ end (frames-told s c.packet_frames.ensures c.in_ok-framed.was);
+      inside = (within (goal.at.returns c).In_ok-framed).inside;
     }

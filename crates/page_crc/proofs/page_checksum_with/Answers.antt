@@ -17,5 +17,5 @@ slice_bounds-update-length-2 c = simp length-take (omega arith)
 
 pub returns : goal.returns
 returns c =
-    parts _ c.args.page.now c.least-a.ensures c.least-b.ensures
+    parts _ c.args.page.now c.min-a.ensures c.min-b.ensures
     c.update-head.ensures c.update-field.ensures c.update-2.ensures

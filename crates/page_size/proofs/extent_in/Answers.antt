@@ -8,21 +8,21 @@ use Rattle.page_size.specs.Extent.{ends_at}
 use Rattle.page_size.proofs.Extents.{short-header, no_page_lem, short-lacing, ends_at_lem}
 use Rattle.page_size.proofs.extent_in.Goals as goal
 
-pub returns-then-s-lt-LACING_AT : goal.returns-then-s-lt-LACING_AT
-returns-then-s-lt-LACING_AT c = let a = c.args in sym (short-header a.s.now a.at c.if-s-lt-LACING_AT.true)
+pub returns-then-short : goal.returns-then-short
+returns-then-short c = let a = c.args in sym (short-header a.s.now a.at c.if-short.true)
 
 pub returns-then-not-has_capture : goal.returns-then-not-has_capture
 returns-then-not-has_capture c =
     let call = c.has_capture in
     let a = c.args in
-    sym (no_page_lem a.s.now a.at c.if-s-lt-LACING_AT.false (failed call.ensures c.if-not-has_capture.true))
+    sym (no_page_lem a.s.now a.at c.if-short.false (failed call.ensures c.if-not-has_capture.true))
 
 pub returns-then-s-count_of : goal.returns-then-s-count_of
 returns-then-s-count_of c =
     let call = c.has_capture in
     let a = c.args in
     sym
-    (short-lacing a.s.now a.at c.if-s-lt-LACING_AT.false (held call.ensures c.if-not-has_capture.false)
+    (short-lacing a.s.now a.at c.if-short.false (held call.ensures c.if-not-has_capture.false)
     (omega (arith, c.count_of.ensures.same)))
 
 pub returns : goal.returns
@@ -31,5 +31,5 @@ returns c =
     let a = c.args in
     ap (λ (n : ℕ). ends_at (a.at + n)) c.size_of.ensures.size
     ∙ sym
-    (ends_at_lem a.s.now a.at c.if-s-lt-LACING_AT.false (held call.ensures c.if-not-has_capture.false)
+    (ends_at_lem a.s.now a.at c.if-short.false (held call.ensures c.if-not-has_capture.false)
     (omega (arith, c.count_of.ensures.same)))

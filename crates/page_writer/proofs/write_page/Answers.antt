@@ -2,12 +2,12 @@
 use Rattle.page_writer.proofs.Writing.{flags-refused, flags_taken}
 use Rattle.page_writer.proofs.write_page.Goals as goal
 
-pub returns-then-h-gt7 : goal.returns-then-h-gt7
-returns-then-h-gt7 c =
+pub returns-then-unknown : goal.returns-then-unknown
+returns-then-unknown c =
     let a = c.args in
-    flags-refused a.h a.lacing.now a.body.now a.out.now c.if-h-gt7.true
+    flags-refused a.h a.lacing.now a.body.now a.out.now c.if-unknown.true
 
 pub returns : goal.returns
 returns c =
     let a = c.args in
-    flags_taken a.h a.lacing.now a.body.now a.out.now _ _ c.if-h-gt7.false c.write_any_page.ensures
+    flags_taken a.h a.lacing.now a.body.now a.out.now _ _ c.if-unknown.false c.write_any_page.ensures

@@ -1,15 +1,13 @@
 -- `reader::fed_of` meets its contract. Assumes nothing.
-use mathlib.Core.Path.{◌≡◌}
-use borrow.Author.Rules.{rules}
-use Rattle.stream.specs.declared.PageFed.TheVariants.{Accepted, Refused}
+use mathlib.Core.Path.{sym, ap}
+use Rattle.std.proofs.lemmas.Result.{err_from_is_err_and}
+use Rattle.stream.specs.Feed.{told_page}
 use Rattle.reader.proofs.fed_of.Goals as goal
 
-pub returns-in-Accepted : goal.returns-in-Accepted
-returns-in-Accepted c =
-    let q : c.args.fed ≡ Accepted c.in-Accepted.core c.in-Accepted.tally c.in-Accepted.counts = cc in
-    rw q
+pub returns : goal.returns
+returns c = sym (ap told_page c.in_ok-page.was)
 
-pub returns-in-Refused : goal.returns-in-Refused
-returns-in-Refused c =
-    let q : c.args.fed ≡ Refused c.in-Refused.why = cc in
-    rw q
+pub returns-in_err-page : goal.returns-in_err-page
+returns-in_err-page c =
+    let p = err_from_is_err_and c.from_residual.result c.from_residual.ensures.1 in
+    rw (p.1, p.2) (sym (ap told_page c.in_err-page.was))

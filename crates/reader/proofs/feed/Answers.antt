@@ -1,5 +1,4 @@
 -- `reader::feed` meets its contract. Assumes nothing.
-use borrow.Author.Rules.{rules}
 use Rattle.reader.proofs.feed.Goals as goal
 
 pub returns : goal.returns

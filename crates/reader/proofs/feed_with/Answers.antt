@@ -1,5 +1,4 @@
 -- `reader::feed_with` meets its contract. Assumes nothing.
-use borrow.Author.Rules.{rules}
 use Rattle.reader.proofs.feed_with.Goals as goal
 
 pub returns : goal.returns

@@ -1,22 +1,15 @@
 -- `reader::keep` meets its contract. Assumes nothing.
-use mathlib.Core.Path.{◌≡◌}
-use borrow.Author.Rules.{rules}
-use Rattle.stream.specs.declared.PageFed.TheVariants.{Accepted, Refused}
+use Rattle.std.proofs.lemmas.Result.{err_from_is_err_and}
 use Rattle.reader.proofs.States.{state-accepted, state-refused}
 use Rattle.reader.proofs.keep.Goals as goal
 
-pub returns-in-Accepted : goal.returns-in-Accepted
-returns-in-Accepted c =
+pub returns : goal.returns
+returns c =
     λ f after is.
-    let core = c.in-Accepted.core in
-    let tally = c.in-Accepted.tally in
-    let counts = c.in-Accepted.counts in
-    let q : c.args.fed ≡ Accepted core tally counts = cc in
-    state-accepted core tally counts (rw q at is) c.numbers_of.ensures
+    let page = c.in_ok-page.page in
+    state-accepted page.core page.tally page.counts (rw c.in_ok-page.was at is) c.numbers_of.ensures
 
-pub returns-in-Refused : goal.returns-in-Refused
-returns-in-Refused c =
-    λ f after is.
-    let why = c.in-Refused.why in
-    let q : c.args.fed ≡ Refused why = cc in
-    state-refused why (rw q at is)
+pub returns-in_err-page : goal.returns-in_err-page
+returns-in_err-page c =
+    let p = err_from_is_err_and c.from_residual.result c.from_residual.ensures.1 in
+    rw (p.1, p.2) (λ f after is. state-refused _ (rw c.in_err-page.was at is))

@@ -1,5 +1,4 @@
 -- `reader::of_state` meets its contract. Assumes nothing.
-use borrow.Author.Rules.{rules}
 use Rattle.reader.proofs.of_state.Goals as goal
 
 pub returns : goal.returns

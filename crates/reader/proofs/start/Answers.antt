@@ -1,5 +1,4 @@
 -- `reader::start` meets its contract. Assumes nothing.
-use borrow.Author.Rules.{rules}
 use Rattle.reader.proofs.start.Goals as goal
 
 pub returns : goal.returns

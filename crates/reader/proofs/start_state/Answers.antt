@@ -1,5 +1,4 @@
 -- `reader::start_state` meets its contract. Assumes nothing.
-use borrow.Author.Rules.{rules}
 use Rattle.reader.proofs.start_state.Goals as goal
 
 pub returns : goal.returns

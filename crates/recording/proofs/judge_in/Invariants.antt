@@ -1,4 +1,5 @@
 -- `recording::judge_in` meets its contract. Assumes nothing.
+use Rattle.std.specs.Prelude.{Result, Ok, Err}
 use Prim.Native.Nat.{◌-◌, ◌<◌}
 use mathlib.Core.Path.{◌≡◌, refl, ◌∙◌}
 use native.Mathlib.Omega.{arith}
@@ -9,8 +10,9 @@ use Rattle.page_crc.specs.Crc.{page_crc}
 use Rattle.stream.specs.Readings.{Readings, readings}
 use Rattle.stream.specs.Lent.{lent_of}
 use Rattle.recording.specs.declared.Accepted.{Accepted}
-use Rattle.recording.specs.declared.Judged.{Judged}
-use Rattle.recording.specs.declared.Step.TheVariants.{Goes, Ends}
+use Rattle.recording.specs.declared.Whole.{Whole}
+use Rattle.recording.specs.declared.RefusedAt.{RefusedAt}
+use Rattle.std.specs.declared.ops.ControlFlow.TheVariants.{Continue, Break}
 use Rattle.recording.specs.Judging.{judge_buffer}
 use Rattle.recording.specs.Answers.{told_judged, judge_after, Within}
 use Rattle.recording.proofs.Steps.{step_on, step_ends, from_start}

@@ -9,8 +9,8 @@ use Rattle.salvage_feed.specs.Feeding.{tidied_bytes}
 use Rattle.salvage_feed.proofs.Feeding.{parts_of, accepts, refused}
 use Rattle.salvage_feed.proofs.feed_tidied.Goals as goal
 
-pub returns-in-Accepted : goal.returns-in-Accepted
-returns-in-Accepted c =
+pub returns-in-Ok : goal.returns-in-Ok
+returns-in-Ok c =
     λ good room.
     let a = c.args in
     let m : Lent = lent_of a.carry.now a.ends.now a.lengths.now a.kept.now a.frames.now in
@@ -19,11 +19,11 @@ returns-in-Accepted c =
     let parts : PartsOf page_crc b c.header_kept-h.result c.lacing_kept-lacing.result.now c.body_kept-body.result.now =
     parts_of a.page.now a.form a.number (record { below = λ (i : ℕ). (c.shared_slice_known-1.given i).fits }) good _ _ _
     c.header_kept-h.ensures c.lacing_kept-lacing.ensures c.body_kept-body.ensures in
-    accepts a.core c.no_tally-tally.result m _ b room c.in-Accepted.is
+    accepts a.core c.no_tally-tally.result m _ b room c.in-Ok.is
     (c.feed_parts.ensures page_crc b parts)
 
-pub returns-in-Refused : goal.returns-in-Refused
-returns-in-Refused c =
+pub returns-in-Err : goal.returns-in-Err
+returns-in-Err c =
     λ good room.
     let a = c.args in
     let m : Lent = lent_of a.carry.now a.ends.now a.lengths.now a.kept.now a.frames.now in
@@ -32,5 +32,5 @@ returns-in-Refused c =
     let parts : PartsOf page_crc b c.header_kept-h.result c.lacing_kept-lacing.result.now c.body_kept-body.result.now =
     parts_of a.page.now a.form a.number (record { below = λ (i : ℕ). (c.shared_slice_known-1.given i).fits }) good _ _ _
     c.header_kept-h.ensures c.lacing_kept-lacing.ensures c.body_kept-body.ensures in
-    refused a.core c.no_tally-tally.result m _ b room c.in-Refused.is
+    refused a.core c.no_tally-tally.result m _ b room c.in-Err.is
     (c.feed_parts.ensures page_crc b parts)

@@ -40,8 +40,8 @@ feed_next-requires c =
 pub loop-next-smaller : goal.loop-next-smaller
 loop-next-smaller c =
     let i = c.listed_at-next.result.index in
-    let after = c.in-Accepted.after in
-    let past : after.now.at ≡ suc i = subst (Onward i) c.in-Accepted.is c.feed_next.ensures.onward in
+    let after = c.in-Some.after in
+    let past : after.now.at ≡ suc i = subst (Onward i) c.in-Some.is c.feed_next.ensures.onward in
     omega (arith, past, nearer c.args.list.now c.loop-next.pass.now.at i c.listed_at-next.ensures.index (omega (arith, c.if-index-list.false)))
 
 pub loop-next-preserved : goal.loop-next-preserved
@@ -57,30 +57,30 @@ loop-next-preserved c =
       kept = c.kept-1.given;
       frames = c.frames-1.given;
     })
-    _ c.in-Accepted.is
+    _ c.in-Some.is
 
-pub shape_of-carry-in-Refused : goal.shape_of-carry-in-Refused
-shape_of-carry-in-Refused c = c.carry-1.given ∙ c.loop-next.invariant.alike.carry
+pub shape_of-carry-in-None : goal.shape_of-carry-in-None
+shape_of-carry-in-None c = c.carry-1.given ∙ c.loop-next.invariant.alike.carry
 
-pub shape_of-keep-in-Refused : goal.shape_of-keep-in-Refused
-shape_of-keep-in-Refused c = c.keep-1.given ∙ c.loop-next.invariant.alike.keeps
+pub shape_of-keep-in-None : goal.shape_of-keep-in-None
+shape_of-keep-in-None c = c.keep-1.given ∙ c.loop-next.invariant.alike.keeps
 
-pub shape_of-spare-in-Refused : goal.shape_of-spare-in-Refused
-shape_of-spare-in-Refused c = c.spare-1.given ∙ c.loop-next.invariant.alike.spares
+pub shape_of-spare-in-None : goal.shape_of-spare-in-None
+shape_of-spare-in-None c = c.spare-1.given ∙ c.loop-next.invariant.alike.spares
 
-pub shape_of-ends-in-Refused : goal.shape_of-ends-in-Refused
-shape_of-ends-in-Refused c = c.ends-1.given ∙ c.loop-next.invariant.alike.ends
+pub shape_of-ends-in-None : goal.shape_of-ends-in-None
+shape_of-ends-in-None c = c.ends-1.given ∙ c.loop-next.invariant.alike.ends
 
-pub shape_of-lengths-in-Refused : goal.shape_of-lengths-in-Refused
-shape_of-lengths-in-Refused c = c.lengths-1.given ∙ c.loop-next.invariant.alike.lengths
+pub shape_of-lengths-in-None : goal.shape_of-lengths-in-None
+shape_of-lengths-in-None c = c.lengths-1.given ∙ c.loop-next.invariant.alike.lengths
 
-pub shape_of-kept-in-Refused : goal.shape_of-kept-in-Refused
-shape_of-kept-in-Refused c = c.kept-1.given ∙ c.loop-next.invariant.alike.kept
+pub shape_of-kept-in-None : goal.shape_of-kept-in-None
+shape_of-kept-in-None c = c.kept-1.given ∙ c.loop-next.invariant.alike.kept
 
-pub shape_of-frames-in-Refused : goal.shape_of-frames-in-Refused
-shape_of-frames-in-Refused c = c.frames-1.given ∙ c.loop-next.invariant.alike.frames
+pub shape_of-frames-in-None : goal.shape_of-frames-in-None
+shape_of-frames-in-None c = c.frames-1.given ∙ c.loop-next.invariant.alike.frames
 
-pub returns-in-Refused : goal.returns-in-Refused
-returns-in-Refused c =
+pub returns-in-None : goal.returns-in-None
+returns-in-None c =
     run_refused c.requires c.loop-next.invariant c.listed_at-next.ensures (omega (arith, c.if-index-list.false)) c.feed_next.result
-    c.feed_next.new.carry c.feed_next.new.keep c.feed_next.ensures.next_fed_is c.in-Refused.is
+    c.feed_next.new.carry c.feed_next.new.keep c.feed_next.ensures.next_fed_is c.in-None.is

@@ -6,13 +6,13 @@ use Rattle.salvage_rules.specs.Good.{good_pages}
 use Rattle.salvage_list.proofs.Collecting.{of_serial_lem, of_none}
 use Rattle.salvage_list.proofs.collect_with.Goals as goal
 
-pub returns-in-Serial : goal.returns-in-Serial
-returns-in-Serial c =
+pub returns-in-Some : goal.returns-in-Some
+returns-in-Some c =
     let a = c.args in
-    of_serial_lem (good_pages (page_sliced (entry_in a.tables.now)) a.buffer.now) c.serial_of.result c.serial_of.ensures c.in-Serial.is
+    of_serial_lem (good_pages (page_sliced (entry_in a.tables.now)) a.buffer.now) c.serial_of.result c.serial_of.ensures c.in-Some.is
     c.collect_serial.ensures
 
-pub returns-in-Nothing : goal.returns-in-Nothing
-returns-in-Nothing c =
+pub returns-in-None : goal.returns-in-None
+returns-in-None c =
     let a = c.args in
-    of_none (good_pages (page_sliced (entry_in a.tables.now)) a.buffer.now) c.serial_of.result c.serial_of.ensures c.in-Nothing.is
+    of_none (good_pages (page_sliced (entry_in a.tables.now)) a.buffer.now) c.serial_of.result c.serial_of.ensures c.in-None.is

@@ -9,19 +9,13 @@ loop-i-init c = (omega arith, omega arith)
 pub bounds-c-i : goal.bounds-c-i
 bounds-c-i c = omega arith
 
-pub returns-then-c-i-eq61 : goal.returns-then-c-i-eq61
-returns-then-c-i-eq61 c =
-    omega (arith, equals-here c.args.c.now c.loop-i.i (omega arith) c.if-c-i-eq61.true)
-
-pub overflow_add-i : goal.overflow_add-i
-overflow_add-i c = omega arith
-
-pub loop-i-smaller : goal.loop-i-smaller
-loop-i-smaller c = omega arith
+pub returns-then-b-eq61 : goal.returns-then-b-eq61
+returns-then-b-eq61 c =
+    omega (arith, equals-here c.args.c.now c.loop-i.i (omega arith) c.if-b-eq61.true)
 
 pub loop-i-preserved : goal.loop-i-preserved
 loop-i-preserved c =
-    (omega (arith, no_equals_here c.args.c.now c.loop-i.i (omega arith) c.if-c-i-eq61.false), omega arith)
+    (omega (arith, no_equals_here c.args.c.now c.loop-i.i (omega arith) c.if-b-eq61.false), omega arith)
 
 pub returns : goal.returns
 returns c = omega (arith, no_equals_left c.args.c.now c.loop-i.i c.loop-i-test.false)

@@ -7,19 +7,19 @@ use Rattle.tags_comment.specs.Gain.{all_digits}
 use Rattle.tags_comment.proofs.Gain.{too_long, no_digit, not-digits, size_decides, few-digits}
 use Rattle.tags_comment.proofs.right_gain.Goals as goal
 
-pub returns-then-t-gt6 : goal.returns-then-t-gt6
-returns-then-t-gt6 c = sym (too_long c.args.t.now c.if-t-gt6.true)
+pub returns-then-long : goal.returns-then-long
+returns-then-long c = sym (too_long c.args.t.now c.if-long.true)
 
 pub returns-then-none : goal.returns-then-none
 returns-then-none c =
     let d = c.digits_of-d in
-    sym (no_digit c.args.t.now d.result.now c.if-t-gt6.false d.ensures c.if-none.true)
+    sym (no_digit c.args.t.now d.result.now c.if-long.false d.ensures c.if-none.true)
 
 pub returns-then-not-all_within : goal.returns-then-not-all_within
 returns-then-not-all_within c =
     let d = c.digits_of-d in
     sym
-    (not-digits c.args.t.now d.result.now c.if-t-gt6.false d.ensures c.if-none.false
+    (not-digits c.args.t.now d.result.now c.if-long.false d.ensures c.if-none.false
     (failed c.all_within.ensures c.if-not-all_within.true))
 
 pub decimal-requires : goal.decimal-requires
@@ -29,7 +29,7 @@ decimal-requires c =
     let d = c.digits_of-d in
     record {
       digits = digits;
-      few = few-digits c.args.t.now d.result.now c.if-t-gt6.false d.ensures;
+      few = few-digits c.args.t.now d.result.now c.if-long.false d.ensures;
     }
 
 pub returns : goal.returns
@@ -37,4 +37,4 @@ returns c =
     let digits : all_digits c.digits_of-d.result.now ≡ true = held c.all_within.ensures c.if-not-all_within.false in
     let d = c.digits_of-d in
     ap₂ leb c.decimal.ensures c.most_of.ensures
-    ∙ sym (size_decides c.args.t.now d.result.now c.if-t-gt6.false d.ensures c.if-none.false digits)
+    ∙ sym (size_decides c.args.t.now d.result.now c.if-long.false d.ensures c.if-none.false digits)

@@ -1,47 +1,22 @@
--- `tags_comment::same_name` meets its contract. The loop's invariant: what is left decides. Assumes nothing.
-use mathlib.Core.Path.{refl, sym, ◌∙◌}
-use native.Mathlib.Omega.{arith}
-use lib.ListN.{drop_of_length-le}
-use Rattle.octets.proofs.Tests.{agrees, differs}
-use Rattle.tags_comment.specs.Names.{same_name}
-use Rattle.tags_comment.proofs.Names.{other_length, other_letter, same_letter}
+-- `tags_comment::same_name` meets its contract. Assumes nothing.
+use mathlib.Core.Path.{sym, ◌∙◌}
+use borrow.Author.Rules.{rules}
+use borrow.Author.Tests.{tests}
+use lib.Dec.{eqb}
+use Prim.Native.Nat.{ℕ}
+use Rattle.std.proofs.lemmas.Iterator.{YieldsList-from_slice, YieldsList-from_zip}
+use Rattle.std.proofs.lemmas.Iterator.Search.{all_from_yields_List}
+use Rattle.tags_comment.specs.Names.{upper}
+use Rattle.tags_comment.proofs.Names.{other_length, letters}
 use Rattle.tags_comment.proofs.same_name.Goals as goal
 
 pub returns-then-n-m : goal.returns-then-n-m
 returns-then-n-m c = let a = c.args in sym (other_length a.n.now a.m.now c.if-n-m.true)
 
-pub loop-i-init : goal.loop-i-init
-loop-i-init c = (refl, omega arith, omega arith)
-
-pub bounds-n-i : goal.bounds-n-i
-bounds-n-i c = omega arith
-
-pub bounds-m-i : goal.bounds-m-i
-bounds-m-i c = omega arith
-
-pub returns-then-upper : goal.returns-then-upper
-returns-then-upper c =
-    let a = c.args in
-    sym (other_letter a.n.now a.m.now c.loop-i.i (omega arith) (omega arith) (differs c.upper.ensures c.upper-in-loop-i.ensures c.if-upper.true))
-    ∙ c.loop-i.invariant.0
-
-pub overflow_add-i : goal.overflow_add-i
-overflow_add-i c = omega arith
-
-pub loop-i-smaller : goal.loop-i-smaller
-loop-i-smaller c = omega arith
-
-pub loop-i-preserved : goal.loop-i-preserved
-loop-i-preserved c =
-    let a = c.args in (
-      same_letter a.n.now a.m.now c.loop-i.i (omega arith) (omega arith) (agrees c.upper.ensures c.upper-in-loop-i.ensures c.if-upper.false)
-          ∙ c.loop-i.invariant.0,
-      omega arith,
-      omega arith,
-    )
-
 pub returns : goal.returns
-unfolding same_name
 returns c =
-    let a = c.args in
-    rw (drop_of_length-le a.n.now c.loop-i-test.false, drop_of_length-le a.m.now {i = c.loop-i.i} (omega arith)) at c.loop-i.invariant.0
+    let n = c.args.n.now in
+    let m = c.args.m.now in
+    all_from_yields_List (λ (p : ℕ × ℕ). eqb (upper p.0) (upper p.1)) c.all.new.self _ _ c.all.ensures.ran
+    (YieldsList-from_zip (YieldsList-from_slice n cc) (YieldsList-from_slice m cc)) (λ x b q k. search (rules, tests))
+    ∙ letters n m c.if-n-m.false

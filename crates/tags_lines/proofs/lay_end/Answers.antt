@@ -12,7 +12,6 @@ use Rattle.octets.proofs.Tests.{failed, held}
 use Rattle.text_put.proofs.Putting.{put-known, laid-put, laid-known}
 use Rattle.text_gain.specs.Numbers.{decibels_end}
 use Rattle.text_gain.proofs.Texts.{length-end}
-use Rattle.tags_comment.specs.Gain.{told_gain}
 use Rattle.tags_lines.specs.Lines.{gain_end, end_most}
 use Rattle.tags_lines.proofs.Parts.{end-plain, end-gain}
 use Rattle.tags_lines.proofs.lay_end.Goals as goal
@@ -25,11 +24,10 @@ returns-then-not-is_gain c =
     let same = sym (end-plain c.args.c.now (failed c.is_gain.ensures c.if-not-is_gain.true)) in
     record { laid = laid-known same (laid-put (omega (arith, c.requires)) c.put_bytes.ensures); short = short same (omega arith) }
 
-pub returns-in-Gain : goal.returns-in-Gain
-returns-in-Gain c =
-    let told = c.comment_gain.ensures in
-    let same = sym (end-gain c.args.c.now (held c.is_gain.ensures c.if-not-is_gain.false) ∙ ap gain_end (sym told ∙ ap told_gain c.in-Gain.is)) in
-    let g = c.in-Gain.g in
+pub returns-in-Ok : goal.returns-in-Ok
+returns-in-Ok c =
+    let same = sym (end-gain c.args.c.now (held c.is_gain.ensures c.if-not-is_gain.false) ∙ ap gain_end (sym c.in-Ok.ensures)) in
+    let g = c.in-Ok.g in
     let narrow : SFits w16 g = search rules in
     let most = length-end g narrow.sfits in
     record {
@@ -37,8 +35,7 @@ returns-in-Gain c =
       short = short same most;
     }
 
-pub returns-in-Refused : goal.returns-in-Refused
-returns-in-Refused c =
-    let told = c.comment_gain.ensures in
-    let same = sym (end-gain c.args.c.now (held c.is_gain.ensures c.if-not-is_gain.false) ∙ ap gain_end (sym told ∙ ap told_gain c.in-Refused.is)) in
-    record { laid = laid-known same (laid-put (omega (arith, c.requires)) c.put_bytes-in-Refused.ensures); short = short same (omega arith) }
+pub returns-in-Err : goal.returns-in-Err
+returns-in-Err c =
+    let same = sym (end-gain c.args.c.now (held c.is_gain.ensures c.if-not-is_gain.false) ∙ ap gain_end (sym c.in-Err.ensures)) in
+    record { laid = laid-known same (laid-put (omega (arith, c.requires)) c.put_bytes-in-Err.ensures); short = short same (omega arith) }

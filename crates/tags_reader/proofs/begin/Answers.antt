@@ -1,10 +1,10 @@
 -- `tags_reader::begin` meets its contract. Assumes nothing.
+use Rattle.std.specs.Prelude.{Some}
 use mathlib.Core.Path.{sym, ap, ◌∙◌}
 use mathlib.Core.Bool.{false}
 use native.Mathlib.Omega.{arith}
 use Prim.Native.Nat.{ℕ}
 use Rattle.octets.proofs.Tests.{failed, held}
-use Rattle.tags_reader.specs.declared.Walk.TheVariants.{At}
 use Rattle.tags_reader.proofs.Checking.{no_signature, no_vendor, no_characters, no_count, at_first}
 use Rattle.tags_reader.proofs.begin.Goals as goal
 
@@ -24,8 +24,8 @@ returns-then-not-is_utf8 c =
     (held c.fits_at.ensures c.if-not-fits_at.false)
     (failed (rw (c.part_of.ensures, c.vendor_size-vendor.ensures) at c.is_utf8.ensures) c.if-not-is_utf8.true))
 
-pub returns-then-b-first : goal.returns-then-b-first
-returns-then-b-first c =
+pub returns-then-short : goal.returns-then-short
+returns-then-short c =
     sym
     (no_count c.args.b.now (held c.begins_with.ensures c.if-not-begins_with.false)
     (held c.fits_at.ensures c.if-not-fits_at.false)
@@ -34,7 +34,7 @@ returns-then-b-first c =
 
 pub returns : goal.returns
 returns c =
-    ap (λ (k : ℕ). At k false false) c.first_comment-first.ensures
+    ap (λ (k : ℕ). Some (record { at = k; track = false; album = false })) c.first_comment-first.ensures
     ∙ sym
     (at_first c.args.b.now (held c.begins_with.ensures c.if-not-begins_with.false)
     (held c.fits_at.ensures c.if-not-fits_at.false)

@@ -12,32 +12,33 @@ use Rattle.tags_reader.proofs.step.Goals as goal
 pub returns-then-not-fits_at : goal.returns-then-not-fits_at
 returns-then-not-fits_at c =
     let a = c.args in
-    sym (no_text a.b.now a.at a.track a.album (failed c.fits_at.ensures c.if-not-fits_at.true))
+    sym (no_text a.b.now a.walk (failed c.fits_at.ensures c.if-not-fits_at.true))
 
 pub overflow_add-start : goal.overflow_add-start
 overflow_add-start c =
     -- the text is inside, where the test was held
-    let within : next_place c.args.b.now c.args.at ≤ length c.args.b.now = let a = c.args in inside a.b.now a.at (held c.fits_at.ensures c.if-not-fits_at.false) in
+    let within : next_place c.args.b.now c.args.walk.at ≤ length c.args.b.now = let a = c.args in inside a.b.now a.walk.at (held c.fits_at.ensures c.if-not-fits_at.false) in
     let w = within in search rules
 
 pub overflow_add-next : goal.overflow_add-next
 overflow_add-next c =
-    let within : next_place c.args.b.now c.args.at ≤ length c.args.b.now = let a = c.args in inside a.b.now a.at (held c.fits_at.ensures c.if-not-fits_at.false) in
+    let within : next_place c.args.b.now c.args.walk.at ≤ length c.args.b.now = let a = c.args in inside a.b.now a.walk.at (held c.fits_at.ensures c.if-not-fits_at.false) in
     let w = within in search rules
 
-pub returns-in_default : goal.returns-in_default
-returns-in_default c =
+pub returns-in_err-gains : goal.returns-in_err-gains
+returns-in_err-gains c =
     let a = c.args in
-    sym
-    (stops a.b.now a.at a.track a.album c.number32-size.result c.judge.result
+    rw c.from_residual.ensures
+    (sym
+    (stops a.b.now a.walk c.number32-size.result c.judge.result
     (held c.fits_at.ensures c.if-not-fits_at.false) c.number32-size.ensures
-    (rw c.part_of.ensures at c.judge.ensures) c.in_default.is)
+    (rw c.part_of.ensures at c.judge.ensures) c.in_err-gains.was))
 
 pub returns : goal.returns
 returns c =
-    let known = c.in-Seen in
+    let known = c.in_ok-gains in
     let a = c.args in
     sym
-    (goes_on a.b.now a.at a.track a.album c.number32-size.result c.judge.result
+    (goes_on a.b.now a.walk c.number32-size.result c.judge.result
     (held c.fits_at.ensures c.if-not-fits_at.false) c.number32-size.ensures
-    (rw c.part_of.ensures at c.judge.ensures) known.t known.a known.is)
+    (rw c.part_of.ensures at c.judge.ensures) known.gains known.was)

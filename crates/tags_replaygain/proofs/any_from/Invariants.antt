@@ -4,7 +4,4 @@ use Rattle.tags_replaygain.proofs.Comments.{Left}
 use Rattle.tags_replaygain.proofs.any_from.Given as goal
 
 abbrev pub invariant-loop-i : goal.invariant-loop-i
-invariant-loop-i l = Left l.b l.n l.start l.i l.at
-
-abbrev pub decreases-loop-i : goal.decreases-loop-i
-decreases-loop-i l = l.n - l.i
+invariant-loop-i l = Left l.b l.n l.start l._i l.at

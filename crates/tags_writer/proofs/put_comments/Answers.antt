@@ -12,8 +12,8 @@ use Rattle.tags_writer.specs.Writing.{cut_by}
 use Rattle.tags_writer.proofs.Laying.{all-copied, comment-inside, comment-length, rest_sum, comments-copied}
 use Rattle.tags_writer.proofs.put_comments.Goals as goal
 
-pub loop-i-init : goal.loop-i-init
-loop-i-init c =
+pub loop-length-init : goal.loop-length-init
+loop-length-init c =
     let sum = c.requires.sum in (refl, omega arith, omega arith, omega arith, omega arith, refl)
 
 pub put_text-requires : goal.put_text-requires
@@ -21,9 +21,9 @@ put_text-requires c =
     -- what a turn takes from the text is inside it
     let text : Bytes = c.args.text.now in
     let lengths : List ℕ = c.args.lengths.now in
-    let n : ℕ = get_or lengths c.loop-i.i 0 in
-    let inside : n ≤ length text - c.loop-i.from = let l = c.loop-i in comment-inside l.out text lengths l.at l.from l.i c.loop-i-test.true l.invariant.1 in
-    let sized : length (take n (drop c.loop-i.from text)) ≡ n = let l = c.loop-i in comment-length l.out text lengths l.at l.from l.i c.loop-i-test.true l.invariant.1 in
+    let n : ℕ = get_or lengths c.loop-length.length-index 0 in
+    let inside : n ≤ length text - c.loop-length.from = let l = c.loop-length in comment-inside l.out text lengths l.at l.from l.length-index c.loop-length-test.true l.invariant.1 in
+    let sized : length (take n (drop c.loop-length.from text)) ≡ n = let l = c.loop-length in comment-length l.out text lengths l.at l.from l.length-index c.loop-length-test.true l.invariant.1 in
     let size = ap length c.part_of.ensures ∙ sized in
     record { small = omega (arith, size, inside, c.requires.small); room = omega (arith, size, inside) }
 
@@ -31,47 +31,44 @@ pub overflow_add-at : goal.overflow_add-at
 overflow_add-at c =
     let text : Bytes = c.args.text.now in
     let lengths : List ℕ = c.args.lengths.now in
-    let n : ℕ = get_or lengths c.loop-i.i 0 in
-    let inside : n ≤ length text - c.loop-i.from = let l = c.loop-i in comment-inside l.out text lengths l.at l.from l.i c.loop-i-test.true l.invariant.1 in
+    let n : ℕ = get_or lengths c.loop-length.length-index 0 in
+    let inside : n ≤ length text - c.loop-length.from = let l = c.loop-length in comment-inside l.out text lengths l.at l.from l.length-index c.loop-length-test.true l.invariant.1 in
     let small = inside in search rules
 
-pub overflow_add-at-in-loop-i : goal.overflow_add-at-in-loop-i
-overflow_add-at-in-loop-i c =
+pub overflow_add-at-in-loop-length : goal.overflow_add-at-in-loop-length
+overflow_add-at-in-loop-length c =
     let text : Bytes = c.args.text.now in
     let lengths : List ℕ = c.args.lengths.now in
-    let n : ℕ = get_or lengths c.loop-i.i 0 in
-    let inside : n ≤ length text - c.loop-i.from = let l = c.loop-i in comment-inside l.out text lengths l.at l.from l.i c.loop-i-test.true l.invariant.1 in
+    let n : ℕ = get_or lengths c.loop-length.length-index 0 in
+    let inside : n ≤ length text - c.loop-length.from = let l = c.loop-length in comment-inside l.out text lengths l.at l.from l.length-index c.loop-length-test.true l.invariant.1 in
     let small = inside in search rules
 
 pub overflow_add-from : goal.overflow_add-from
 overflow_add-from c =
     let text : Bytes = c.args.text.now in
     let lengths : List ℕ = c.args.lengths.now in
-    let n : ℕ = get_or lengths c.loop-i.i 0 in
-    let inside : n ≤ length text - c.loop-i.from = let l = c.loop-i in comment-inside l.out text lengths l.at l.from l.i c.loop-i-test.true l.invariant.1 in
+    let n : ℕ = get_or lengths c.loop-length.length-index 0 in
+    let inside : n ≤ length text - c.loop-length.from = let l = c.loop-length in comment-inside l.out text lengths l.at l.from l.length-index c.loop-length-test.true l.invariant.1 in
     let small = inside in search rules
 
-pub loop-i-smaller : goal.loop-i-smaller
-loop-i-smaller c = omega arith
-
-pub loop-i-preserved : goal.loop-i-preserved
-loop-i-preserved c =
+pub loop-length-preserved : goal.loop-length-preserved
+loop-length-preserved c =
     let text : Bytes = c.args.text.now in
     let lengths : List ℕ = c.args.lengths.now in
-    let n : ℕ = get_or lengths c.loop-i.i 0 in
-    let inside : n ≤ length text - c.loop-i.from = let l = c.loop-i in comment-inside l.out text lengths l.at l.from l.i c.loop-i-test.true l.invariant.1 in
-    let l = c.loop-i in
+    let n : ℕ = get_or lengths c.loop-length.length-index 0 in
+    let inside : n ≤ length text - c.loop-length.from = let l = c.loop-length in comment-inside l.out text lengths l.at l.from l.length-index c.loop-length-test.true l.invariant.1 in
+    let l = c.loop-length in
     let s = text in
     let ns = lengths in
     let put : c.put_text.new.out ≡ copied l.out l.at (text_bytes (take n (drop l.from s))) =
     (c.put_text.ensures ∙ ap (λ (t : Bytes). copied l.out l.at (text_bytes t)) c.part_of.ensures) in
     let size = ap length put ∙ length-copied l.out l.at (text_bytes (take n (drop l.from s))) in
     let small = inside in
-    let later : Bytes = comments_bytes (cut_by (drop (l.i + 1) ns) (drop (l.from + n) s)) in (
+    let later : Bytes = comments_bytes (cut_by (drop (l.length-index + 1) ns) (drop (l.from + n) s)) in (
       ap (λ (d : Bytes). copied d (l.at + (4 + n)) later) put
-          ∙ comments-copied l.out s ns l.at l.from l.i c.loop-i-test.true l.invariant.1 (omega arith)
+          ∙ comments-copied l.out s ns l.at l.from l.length-index c.loop-length-test.true l.invariant.1 (omega arith)
           ∙ l.invariant.0,
-      rest_sum l.out s ns l.at l.from l.i c.loop-i-test.true l.invariant.1,
+      rest_sum l.out s ns l.at l.from l.length-index c.loop-length-test.true l.invariant.1,
       omega arith,
       omega arith,
       omega arith,
@@ -79,10 +76,10 @@ loop-i-preserved c =
     )
 
 pub shape_of-out : goal.shape_of-out
-shape_of-out c = c.loop-i.invariant.5
+shape_of-out c = c.loop-length.invariant.5
 
 pub returns : goal.returns
 returns c =
-    let l = c.loop-i in
+    let l = c.loop-length in
     let a = c.args in
-    all-copied l.out a.text.now a.lengths.now l.at l.from l.i c.loop-i-test.false (omega arith) ∙ l.invariant.0
+    all-copied l.out a.text.now a.lengths.now l.at l.from l.length-index c.loop-length-test.false (omega arith) ∙ l.invariant.0

@@ -20,10 +20,10 @@ returns-then-lengths-gt-PACKET_MAX c =
     let a = c.args in
     sym (too_big a.vendor.now a.text.now a.lengths.now (omega arith))
 
-pub returns-then-packet_size-gt-PACKET_MAX : goal.returns-then-packet_size-gt-PACKET_MAX
-returns-then-packet_size-gt-PACKET_MAX c =
+pub returns-then-long : goal.returns-then-long
+returns-then-long c =
     let a = c.args in
-    sym (too_big a.vendor.now a.text.now a.lengths.now (omega (arith, c.packet_size.ensures)))
+    sym (too_big a.vendor.now a.text.now a.lengths.now (omega (arith, c.packet_size-long.ensures)))
 
 pub returns-then-not-is_utf8 : goal.returns-then-not-is_utf8
 returns-then-not-is_utf8 c =
@@ -35,4 +35,4 @@ returns c =
     let a = c.args in
     c.right_lengths.ensures
     ∙ lengths_decide a.vendor.now a.text.now a.lengths.now (held c.is_utf8.ensures c.if-not-is_utf8.false)
-    (omega (arith, c.packet_size.ensures))
+    (omega (arith, c.packet_size-long.ensures))

@@ -5,38 +5,35 @@ use Rattle.tags_rules.specs.Code.{told_gains}
 use Rattle.tags_writer.proofs.Lengths.{too_long, comment-wrong, comment_right, lengths_begin, lengths-done}
 use Rattle.tags_writer.proofs.right_lengths.Goals as goal
 
-pub loop-i-init : goal.loop-i-init
-loop-i-init c =
+pub loop-length-init : goal.loop-length-init
+loop-length-init c =
     let a = c.args in
     (lengths_begin a.text.now a.lengths.now, omega arith, omega arith)
 
 pub returns-then-text-at : goal.returns-then-text-at
 returns-then-text-at c =
-    let l = c.loop-i in
+    let l = c.loop-length in
     let a = c.args in
-    sym (too_long a.text.now a.lengths.now l.at l.track l.album l.i c.loop-i-test.true c.if-text-at.true) ∙ l.invariant.0
+    sym (too_long a.text.now a.lengths.now l.at l.gains.track l.gains.album l.length-index c.loop-length-test.true c.if-text-at.true) ∙ l.invariant.0
 
 pub returns-in_default : goal.returns-in_default
 returns-in_default c =
-    let l = c.loop-i in
+    let l = c.loop-length in
     let a = c.args in
-    let judge = rw c.part_of.ensures at c.judge.ensures in
+    let judge = rw c.part_of-comment.ensures at c.judge.ensures in
     sym
-    (comment-wrong a.text.now a.lengths.now l.at l.track l.album l.i c.loop-i-test.true
+    (comment-wrong a.text.now a.lengths.now l.at l.gains.track l.gains.album l.length-index c.loop-length-test.true
     (sym judge ∙ ap told_gains c.in_default.is))
     ∙ l.invariant.0
 
-pub loop-i-smaller : goal.loop-i-smaller
-loop-i-smaller c = omega arith
-
-pub loop-i-preserved : goal.loop-i-preserved
-loop-i-preserved c =
-    let got = c.in-Seen in
-    let l = c.loop-i in
+pub loop-length-preserved : goal.loop-length-preserved
+loop-length-preserved c =
+    let got = c.in-Some in
+    let l = c.loop-length in
     let a = c.args in
-    let judge = rw c.part_of.ensures at c.judge.ensures in (
+    let judge = rw c.part_of-comment.ensures at c.judge.ensures in (
       sym
-          (comment_right a.text.now a.lengths.now l.at l.track l.album l.i c.loop-i-test.true got.t got.a
+          (comment_right a.text.now a.lengths.now l.at l.gains.track l.gains.album l.length-index c.loop-length-test.true got.next.track got.next.album
           c.if-text-at.false (sym judge ∙ ap told_gains got.is))
           ∙ l.invariant.0,
       omega arith,
@@ -45,7 +42,7 @@ loop-i-preserved c =
 
 pub returns : goal.returns
 returns c =
-    let l = c.loop-i in
+    let l = c.loop-length in
     let a = c.args in
-    sym (lengths-done a.text.now a.lengths.now l.at l.track l.album l.i c.loop-i-test.false (omega arith))
+    sym (lengths-done a.text.now a.lengths.now l.at l.gains.track l.gains.album l.length-index c.loop-length-test.false (omega arith))
     ∙ l.invariant.0

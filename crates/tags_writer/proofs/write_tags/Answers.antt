@@ -27,15 +27,15 @@ packet_size-size-requires c =
     let small : packet_size vendor text lengths ≤ packet_max = (size_right vendor text lengths right).1 in
     let most = small in search rules
 
-pub returns-then-out-size : goal.returns-then-out-size
-returns-then-out-size c =
+pub returns-then-short : goal.returns-then-short
+returns-then-short c =
     let vendor : Bytes = c.args.vendor.now in
     let text : Bytes = c.args.text.now in
     let lengths : List ℕ = c.args.lengths.now in
     let right : right_fields vendor text lengths ≡ true = held c.right_fields.ensures c.if-not-right_fields.false in
     let a = c.args in
     refused-room a.vendor.now a.text.now a.lengths.now a.out.now right
-    (omega (arith, c.packet_size-size.ensures, c.if-out-size.true))
+    (omega (arith, c.packet_size-size.ensures, c.if-short.true))
 
 pub put_tags-requires : goal.put_tags-requires
 put_tags-requires c =
@@ -48,7 +48,7 @@ put_tags-requires c =
     record {
       sum = sums_right a.vendor.now a.text.now a.lengths.now right;
       small = small;
-      room = omega (arith, c.packet_size-size.ensures, c.if-out-size.false);
+      room = omega (arith, c.packet_size-size.ensures, c.if-short.false);
     }
 
 pub returns : goal.returns
@@ -61,4 +61,4 @@ returns c =
     let size = c.packet_size-size in
     rw size.ensures
     (wrote_packet a.vendor.now a.text.now a.lengths.now a.out.now c.put_tags.new.out right
-    (omega (arith, size.ensures, c.if-out-size.false)) c.put_tags.ensures)
+    (omega (arith, size.ensures, c.if-short.false)) c.put_tags.ensures)

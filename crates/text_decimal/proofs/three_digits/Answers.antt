@@ -32,5 +32,4 @@ overflow_add-result-4 c = omega arith
 
 pub returns : goal.returns
 returns c =
-    let byte = c.wide in
-    three_right c.args.x c.args.b byte.result c.requires.least c.requires.below byte.ensures.same (omega (arith, byte.ensures.most))
+    three_right c.args.x c.args.b c.from.result c.requires.least c.requires.below c.from.ensures (omega arith)

@@ -1,12 +1,10 @@
 -- `utf8::number_with` meets its contract. The loop's invariant: what is left gives the number, which has room. Assumes nothing.
 use mathlib.Core.Path.{◌≡◌}
+use Prim.Native.Nat.{◌-◌}
 use lib.ListN.{drop}
 use Rattle.utf8.specs.Characters.{number_with}
 use Rattle.utf8.proofs.Tails.{Room}
 use Rattle.utf8.proofs.number_with.Given as goal
 
-abbrev pub invariant-loop-left : goal.invariant-loop-left
-invariant-loop-left l = (number_with l.x l.left (drop l.i l.s) ≡ number_with l.lead l.n (drop l.at l.s)) × Room l.x l.left
-
-abbrev pub decreases-loop-left : goal.decreases-loop-left
-decreases-loop-left l = l.left
+abbrev pub invariant-loop-tail : goal.invariant-loop-tail
+invariant-loop-tail l = (number_with l.x (l.n - l.tail-index) (drop l.tail-index l.tail-items) ≡ number_with l.lead l.n (drop l.at l.s)) × Room l.x (l.n - l.tail-index)

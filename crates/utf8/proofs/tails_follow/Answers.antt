@@ -1,41 +1,44 @@
 -- `utf8::tails_follow` meets its contract. The loop's invariant: what is left decides. Assumes nothing.
-use mathlib.Core.Path.{◌≡◌, refl, sym, ◌∙◌}
+use mathlib.Core.Path.{◌≡◌, sym, ◌∙◌}
+use Prim.Native.Nat.{◌+◌, ◌-◌, ◌≤◌}
 use native.Mathlib.Omega.{arith}
-use Rattle.utf8.specs.Characters.{tails_follow}
-use Rattle.utf8.proofs.Tails.{cut_tails, low-tail, high-tail, right_tail}
+use lib.ListN.{length, drop}
+use Rattle.utf8.proofs.Tails.{few, taken_tails, enough_tails, low-tail, high-tail, right_tail}
 use Rattle.utf8.proofs.tails_follow.Goals as goal
+use Rattle.utf8.proofs.tails_follow.Goals.{then-tail-lt128-via-then-tail-lt128, then-tail-lt128-via-else-tail-lt128+then-tail-gt191}
 
-pub loop-missing-init : goal.loop-missing-init
-loop-missing-init c = refl
-
-pub returns-then-i-s : goal.returns-then-i-s
-returns-then-i-s c =
-    sym (cut_tails c.loop-missing.missing c.args.s.now c.loop-missing.i (omega arith) c.if-i-s.true) ∙ c.loop-missing.invariant
-
-pub bounds-s-i : goal.bounds-s-i
-bounds-s-i c = omega arith
+pub loop-tail-init : goal.loop-tail-init
+loop-tail-init c =
+    let a = c.args in
+    let all : a.n - 0 ≡ a.n = omega arith in
+    rw (all, c.part_of-tails.ensures) (taken_tails a.n (drop a.at a.s.now))
 
 pub returns-then-tail-lt128 : goal.returns-then-tail-lt128
 returns-then-tail-lt128 c =
-    sym (low-tail c.loop-missing.missing c.args.s.now c.loop-missing.i (omega arith) (omega arith) c.if-tail-lt128.true) ∙ c.loop-missing.invariant
+    let n = c.args.n in
+    let t = c.part_of-tails.result.now in
+    let l = c.loop-tail in
+    let size : length t ≤ n = few c.args.n (drop c.args.at c.args.s.now) c.part_of-tails.ensures in
+    elim c.then-tail-lt128.branch [
+      | then-tail-lt128-via-then-tail-lt128 w ↦
+          sym (low-tail (n - l.tail-index) t l.tail-index (omega arith) (omega arith) w.if-tail-lt128.true) ∙ l.invariant
+      | then-tail-lt128-via-else-tail-lt128+then-tail-gt191 w ↦
+          sym (high-tail (n - l.tail-index) t l.tail-index (omega arith) (omega arith) w.if-tail-lt128.false w.if-tail-gt191.true) ∙ l.invariant
+    ]
 
-pub returns-then-tail-gt191 : goal.returns-then-tail-gt191
-returns-then-tail-gt191 c =
-    sym (high-tail c.loop-missing.missing c.args.s.now c.loop-missing.i (omega arith) (omega arith) c.if-tail-lt128.false c.if-tail-gt191.true) ∙ c.loop-missing.invariant
-
-pub overflow_add-i : goal.overflow_add-i
-overflow_add-i c = omega arith
-
-pub overflow_sub-missing : goal.overflow_sub-missing
-overflow_sub-missing c = omega arith
-
-pub loop-missing-smaller : goal.loop-missing-smaller
-loop-missing-smaller c = omega arith
-
-pub loop-missing-preserved : goal.loop-missing-preserved
-loop-missing-preserved c =
-    right_tail c.loop-missing.missing c.args.s.now c.loop-missing.i (omega arith) (omega arith) c.if-tail-lt128.false c.if-tail-gt191.false ∙ c.loop-missing.invariant
+pub loop-tail-preserved : goal.loop-tail-preserved
+loop-tail-preserved c =
+    let n = c.args.n in
+    let t = c.part_of-tails.result.now in
+    let l = c.loop-tail in
+    let size : length t ≤ n = few c.args.n (drop c.args.at c.args.s.now) c.part_of-tails.ensures in
+    let fewer : n - (l.tail-index + 1) ≡ n - l.tail-index - 1 = omega arith in
+    rw fewer (right_tail (n - l.tail-index) t l.tail-index (omega arith) (omega arith) c.if-tail-lt128.false c.if-tail-gt191.false) ∙ l.invariant
 
 pub returns : goal.returns
-unfolding tails_follow
-returns c = let none : c.loop-missing.missing ≡ 0 = omega arith in rw none at c.loop-missing.invariant
+returns c =
+    let n = c.args.n in
+    let t = c.part_of-tails.result.now in
+    let l = c.loop-tail in
+    let size : length t ≤ n = few c.args.n (drop c.args.at c.args.s.now) c.part_of-tails.ensures in
+    enough_tails n l.tail-index t (omega arith) (omega arith) ∙ l.invariant

@@ -1,4 +1,6 @@
 -- `check_stream::walk::turn` meets its contract. Assumes nothing.
+use Rattle.std.specs.Prelude.{Result, Ok, Err}
+use Rattle.refusal.specs.declared.Refusal.{Refusal}
 use Prim.Native.Nat.{ℕ}
 use mathlib.Core.Path.{subst}
 use native.Mathlib.Omega.{arith}
@@ -30,40 +32,40 @@ last_of-last-requires c =
     let lent : Lent = lent_of a.carry.now a.ends.now a.lengths.now a.kept.now a.frames.now in
     let left : Lent = (let l = c.feed.new in lent_of l.carry l.ends l.lengths l.kept l.frames) in
     let page : Bytes = c.page_at-page.result.now in
-    let fed = subst (λ (f : Fed). Feeds (readings page_crc) (known_as a.walk.reader) page lent (told_fed f) left) c.in-Accepted.is c.feed.ensures in
+    let fed = subst (λ (f : Result Fed Refusal). Feeds (readings page_crc) (known_as a.walk.reader) page lent (told_fed f) left) c.in-Ok.is c.feed.ensures in
     few-packets a.stream.now a.headers a.gains a.walk lent left page c.requires c.page_at-page.ensures
-    c.in-Accepted.next c.in-Accepted.counts (record { below = λ (i : ℕ). (c.shared_slice_known-1.given i).fits }) fed c.lengths-1.given
+    c.in-Ok.fed.reader c.in-Ok.fed.counts (record { below = λ (i : ℕ). (c.shared_slice_known-1.given i).fits }) fed c.lengths-1.given
 
-pub shape_of-carry-in-Accepted : goal.shape_of-carry-in-Accepted
-shape_of-carry-in-Accepted c = c.carry-1.given
+pub shape_of-carry-in-Ok : goal.shape_of-carry-in-Ok
+shape_of-carry-in-Ok c = c.carry-1.given
 
-pub shape_of-ends-in-Accepted : goal.shape_of-ends-in-Accepted
-shape_of-ends-in-Accepted c = c.ends-1.given
+pub shape_of-ends-in-Ok : goal.shape_of-ends-in-Ok
+shape_of-ends-in-Ok c = c.ends-1.given
 
-pub shape_of-lengths-in-Accepted : goal.shape_of-lengths-in-Accepted
-shape_of-lengths-in-Accepted c = c.lengths-1.given
+pub shape_of-lengths-in-Ok : goal.shape_of-lengths-in-Ok
+shape_of-lengths-in-Ok c = c.lengths-1.given
 
-pub shape_of-kept-in-Accepted : goal.shape_of-kept-in-Accepted
-shape_of-kept-in-Accepted c = c.kept-1.given
+pub shape_of-kept-in-Ok : goal.shape_of-kept-in-Ok
+shape_of-kept-in-Ok c = c.kept-1.given
 
-pub returns-in-Accepted : goal.returns-in-Accepted
-returns-in-Accepted c =
+pub returns-in-Ok : goal.returns-in-Ok
+returns-in-Ok c =
     let a = c.args in
     let lent : Lent = lent_of a.carry.now a.ends.now a.lengths.now a.kept.now a.frames.now in
     let left : Lent = (let l = c.feed.new in lent_of l.carry l.ends l.lengths l.kept l.frames) in
     let page : Bytes = c.page_at-page.result.now in
-    let fed = subst (λ (f : Fed). Feeds (readings page_crc) (known_as a.walk.reader) page lent (told_fed f) left) c.in-Accepted.is c.feed.ensures in
+    let fed = subst (λ (f : Result Fed Refusal). Feeds (readings page_crc) (known_as a.walk.reader) page lent (told_fed f) left) c.in-Ok.is c.feed.ensures in
     turned a.stream.now a.headers a.gains a.walk lent left page c.requires c.page_at-page.ensures
-    c.in-Accepted.next c.in-Accepted.counts (record { below = λ (i : ℕ). (c.shared_slice_known-1.given i).fits }) fed c.is_open-pending.result c.last_of-last.result
+    c.in-Ok.fed.reader c.in-Ok.fed.counts (record { below = λ (i : ℕ). (c.shared_slice_known-1.given i).fits }) fed c.is_open-pending.result c.last_of-last.result
     c.both-gain.result c.is_ended-ended.result c.found_on-found.result
     (rw c.lacing_of.ensures at c.is_open-pending.ensures) c.last_of-last.ensures c.both-gain.ensures c.is_ended-ended.ensures
     c.found_on-found.ensures
 
-pub returns-in-Refused : goal.returns-in-Refused
-returns-in-Refused c =
+pub returns-in-Err : goal.returns-in-Err
+returns-in-Err c =
     let a = c.args in
     let lent : Lent = lent_of a.carry.now a.ends.now a.lengths.now a.kept.now a.frames.now in
     let left : Lent = (let l = c.feed.new in lent_of l.carry l.ends l.lengths l.kept l.frames) in
     let page : Bytes = c.page_at-page.result.now in
-    let fed = subst (λ (f : Fed). Feeds (readings page_crc) (known_as a.walk.reader) page lent (told_fed f) left) c.in-Refused.is c.feed.ensures in
+    let fed = subst (λ (f : Result Fed Refusal). Feeds (readings page_crc) (known_as a.walk.reader) page lent (told_fed f) left) c.in-Err.is c.feed.ensures in
     absurd (never_refused a.stream.now a.headers a.gains a.walk lent left page c.requires c.page_at-page.ensures _ fed)

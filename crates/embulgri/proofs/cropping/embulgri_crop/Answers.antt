@@ -3,10 +3,10 @@ use borrow.Author.Rules.{rules}
 use Rattle.embulgri.proofs.Croppings.{crop-written, crop-refused}
 use Rattle.embulgri.proofs.cropping.embulgri_crop.Goals as goal
 
-pub returns-in-Bytes : goal.returns-in-Bytes
-returns-in-Bytes c =
-    crop-written _ _ c.crop.result _ _ _ c.crop.ensures c.in-Bytes.n c.in-Bytes.is
+pub returns-in-Ok : goal.returns-in-Ok
+returns-in-Ok c =
+    crop-written _ _ c.crop.result _ _ _ c.crop.ensures c.in-Ok.n c.in-Ok.is
 
-pub returns-in-Refused : goal.returns-in-Refused
-returns-in-Refused c =
-    crop-refused _ _ c.crop.result _ _ _ c.crop.ensures c.in-Refused.why _ c.in-Refused.is c.number.ensures
+pub returns-in-Err : goal.returns-in-Err
+returns-in-Err c =
+    crop-refused _ _ c.crop.result _ _ _ c.crop.ensures c.in-Err.why _ c.in-Err.is c.number.ensures

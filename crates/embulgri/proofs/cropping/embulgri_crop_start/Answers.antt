@@ -3,10 +3,10 @@ use borrow.Author.Rules.{rules}
 use Rattle.embulgri.proofs.Croppings.{start-found, start-refused}
 use Rattle.embulgri.proofs.cropping.embulgri_crop_start.Goals as goal
 
-pub returns-in-At : goal.returns-in-At
-returns-in-At c =
-    start-found _ c.find_start.result _ c.find_start.ensures c.in-At.page c.in-At.at c.in-At.is
+pub returns-in-Ok : goal.returns-in-Ok
+returns-in-Ok c =
+    start-found _ c.find_start.result _ c.find_start.ensures c.in-Ok.found.page c.in-Ok.found.position c.in-Ok.is
 
-pub returns-in-Refused : goal.returns-in-Refused
-returns-in-Refused c =
-    start-refused _ c.find_start.result _ c.find_start.ensures c.in-Refused.why _ c.in-Refused.is c.number.ensures
+pub returns-in-Err : goal.returns-in-Err
+returns-in-Err c =
+    start-refused _ c.find_start.result _ c.find_start.ensures c.in-Err.why _ c.in-Err.is c.number.ensures

@@ -4,14 +4,14 @@ use Rattle.stream.specs.Lent.{lent_of}
 use Rattle.embulgri.proofs.Readers.{fed, unfed}
 use Rattle.embulgri.proofs.feeding.embulgri_feed.Goals as goal
 
-pub returns-in-Accepted : goal.returns-in-Accepted
-returns-in-Accepted c =
+pub returns-in-Ok : goal.returns-in-Ok
+returns-in-Ok c =
     let a = c.args in
     fed a.state.now a.page.now (lent_of a.carry.now a.ends.now a.lengths.now a.kept.now a.frames.now) c.feed_state.ensures
-    a.out.now c.in-Accepted.counts c.in-Accepted.is c.page_record.ensures
+    a.out.now c.in-Ok.counts c.in-Ok.is c.page_record.ensures
 
-pub returns-in-Refused : goal.returns-in-Refused
-returns-in-Refused c =
+pub returns-in-Err : goal.returns-in-Err
+returns-in-Err c =
     let a = c.args in
     unfed a.state.now a.page.now (lent_of a.carry.now a.ends.now a.lengths.now a.kept.now a.frames.now) c.feed_state.ensures
-    a.out.now c.in-Refused.why c.in-Refused.is c.number.ensures
+    a.out.now c.in-Err.why c.in-Err.is c.number.ensures

@@ -10,14 +10,14 @@ returns-then-not-numbers_fit c =
     rw c.number.ensures
     (open_unfit a.fields.now a.mapping.now a.state.now (failed c.numbers_fit.ensures c.if-not-numbers_fit.true))
 
-pub returns-in-Done : goal.returns-in-Done
-returns-in-Done c =
+pub returns-in-Ok : goal.returns-in-Ok
+returns-in-Ok c =
     let a = c.args in
     opened a.fields.now a.mapping.now a.state.now c.head_of.ensures (held c.numbers_fit.ensures c.if-not-numbers_fit.false)
-    c.open_state.ensures c.in-Done.is
+    c.open_state.ensures c.in-Ok.is
 
-pub returns-in-Refused : goal.returns-in-Refused
-returns-in-Refused c =
+pub returns-in-Err : goal.returns-in-Err
+returns-in-Err c =
     let a = c.args in
     unopened a.fields.now a.mapping.now a.state.now c.head_of.ensures (held c.numbers_fit.ensures c.if-not-numbers_fit.false)
-    c.open_state.ensures c.in-Refused.why c.in-Refused.is c.number-in-Refused.ensures
+    c.open_state.ensures c.in-Err.why c.in-Err.is c.number-in-Err.ensures

@@ -10,14 +10,14 @@ returns-then-not-numbers_fit c =
     rw c.number.ensures
     (numbers_unfit a.fields.now a.mapping.now a.matrix.now a.out.now a.written.now (failed c.numbers_fit.ensures c.if-not-numbers_fit.true))
 
-pub returns-in-Bytes : goal.returns-in-Bytes
-returns-in-Bytes c =
+pub returns-in-Ok : goal.returns-in-Ok
+returns-in-Ok c =
     let a = c.args in
     head-written a.fields.now a.mapping.now a.matrix.now a.out.now a.written.now c.head_of-head.ensures
-    (held c.numbers_fit.ensures c.if-not-numbers_fit.false) c.write_head-wrote.ensures c.in-Bytes.is
+    (held c.numbers_fit.ensures c.if-not-numbers_fit.false) c.write_head-wrote.ensures c.in-Ok.is
 
-pub returns-in-Refused : goal.returns-in-Refused
-returns-in-Refused c =
+pub returns-in-Err : goal.returns-in-Err
+returns-in-Err c =
     let a = c.args in
     head_unwritten a.fields.now a.mapping.now a.matrix.now a.out.now a.written.now c.head_of-head.ensures
-    (held c.numbers_fit.ensures c.if-not-numbers_fit.false) c.write_head-wrote.ensures c.in-Refused.is c.number-in-Refused.ensures
+    (held c.numbers_fit.ensures c.if-not-numbers_fit.false) c.write_head-wrote.ensures c.in-Err.is c.number-in-Err.ensures

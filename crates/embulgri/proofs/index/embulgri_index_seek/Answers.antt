@@ -3,11 +3,11 @@ use borrow.Author.Rules.{rules}
 use Rattle.embulgri.proofs.Indexes.{sought, unsought}
 use Rattle.embulgri.proofs.index.embulgri_index_seek.Goals as goal
 
-pub returns-in-Found : goal.returns-in-Found
-returns-in-Found c =
-    sought c.seek.ensures c.in-Found.sought c.in-Found.is c.store_answer.ensures
+pub returns-in-Ok : goal.returns-in-Ok
+returns-in-Ok c =
+    sought c.seek.ensures c.in-Ok.sought c.in-Ok.is c.store_answer.ensures
 
-pub returns-in-Refused : goal.returns-in-Refused
-returns-in-Refused c =
+pub returns-in-Err : goal.returns-in-Err
+returns-in-Err c =
     let a = c.args in
-    unsought c.seek.ensures a.out.now a.place.now c.in-Refused.why c.in-Refused.is c.number.ensures
+    unsought c.seek.ensures a.out.now a.place.now c.in-Err.why c.in-Err.is c.number.ensures

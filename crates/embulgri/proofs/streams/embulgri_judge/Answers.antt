@@ -6,14 +6,14 @@ use Rattle.embulgri.proofs.streams.embulgri_judge.Goals as goal
 
 pub returns-then-number : goal.returns-then-number
 returns-then-number c =
-    judged_incomplete c.judge.ensures c.args.page.now c.in-Refused.why c.in-Refused.at c.in-Refused.is
+    judged_incomplete c.judge.ensures c.args.page.now c.in-Err.refused.why c.in-Err.refused.page c.in-Err.is
     c.number-number.ensures (agrees c.number-number.ensures c.number.ensures c.if-number.true)
 
-pub returns-in-Whole : goal.returns-in-Whole
-returns-in-Whole c =
-    judged-whole c.judge.ensures c.args.page.now c.in-Whole.field-0 c.in-Whole.field-1 c.in-Whole.is
+pub returns-in-Ok : goal.returns-in-Ok
+returns-in-Ok c =
+    judged-whole c.judge.ensures c.args.page.now c.in-Ok.field-0.pages c.in-Ok.field-0.packets c.in-Ok.is
 
 pub returns-else-number : goal.returns-else-number
 returns-else-number c =
-    judged-refused c.judge.ensures c.args.page.now c.in-Refused.why c.in-Refused.at c.in-Refused.is
+    judged-refused c.judge.ensures c.args.page.now c.in-Err.refused.why c.in-Err.refused.page c.in-Err.is
     c.number-number.ensures (differs c.number-number.ensures c.number.ensures c.if-number.false)

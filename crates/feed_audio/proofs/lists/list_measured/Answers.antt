@@ -1,14 +1,13 @@
 -- `feed_audio::lists::list_measured` meets its contract. Assumes nothing.
-use mathlib.Core.Path.{◌≡◌, refl}
+use Rattle.std.proofs.lemmas.Result.{err_from_is_err_and}
+use mathlib.Core.Path.{refl}
 use native.Mathlib.Omega.{arith}
-use Rattle.feed_audio.specs.declared.times.Timed.TheVariants.{Packets, Refused}
 use Rattle.feed_audio.proofs.lists.list_measured.Goals as goal
 
 pub list_packets-left-requires : goal.list_packets-left-requires
 list_packets-left-requires c =
     let room = c.requires.room in
-    let q : c.time_page.result ≡ Packets c.in-Packets.count c.in-Packets.d c.in-Packets.place = c.in-Packets.is in
-    let m = rw q at c.time_page.ensures in
+    let m = c.in_ok-timed.ensures in
     let size = c.measures-2-1.given in
     record {
       measures = m.runs.few;
@@ -19,16 +18,14 @@ list_packets-left-requires c =
       fits = m.runs.fits;
     }
 
-pub returns-in-Refused : goal.returns-in-Refused
-returns-in-Refused c =
-    let q : c.time_page.result ≡ Refused c.in-Refused.why = c.in-Refused.is in
-    record { packed = _; times = rw q at c.time_page.ensures; stays = refl }
+pub returns-in_err-timed : goal.returns-in_err-timed
+returns-in_err-timed c =
+    let p = err_from_is_err_and c.from_residual.result c.from_residual.ensures.1 in
+    rw (p.1, p.2) (record { packed = _; times = c.in_err-timed.ensures; stays = refl })
 
-pub returns-in-Packets : goal.returns-in-Packets
-returns-in-Packets c =
-    let q : c.time_page.result ≡ Packets c.in-Packets.count c.in-Packets.d c.in-Packets.place = c.in-Packets.is in
-    record {
-      packed = _;
-      times = rw q at c.time_page.ensures;
-      lists = rw c.is_last_page-last.ensures at c.list_packets-left.ensures;
-    }
+pub returns : goal.returns
+returns c = record {
+  packed = _;
+  times = c.in_ok-timed.ensures;
+  lists = rw c.is_last_page-last.ensures at c.list_packets-left.ensures;
+}

@@ -2,6 +2,7 @@
 use Prim.Native.Nat.{◌<◌}
 use mathlib.Core.Path.{◌≡◌, refl, sym, ◌∙◌}
 use native.Mathlib.Omega.{arith}
+use Rattle.std.proofs.lemmas.Result.{err_from_is_err_and}
 use lib.ListN.{length, length-set}
 use lib.Seq.{length-take-le}
 use Rattle.octets.specs.Octets.{total}
@@ -9,7 +10,7 @@ use Rattle.packet_reader.specs.declared.Measure.{Measure}
 use Rattle.stream.specs.Packets.{samples_of}
 use Rattle.stream.specs.declared.Pending.TheVariants.{Nothing, Held, Dropped}
 use Rattle.feed_audio.specs.Code.{measures_in, Packable}
-use Rattle.feed_audio.proofs.Measuring.{read_as, packable, none_yet, first-sums, first-refused, first-measured}
+use Rattle.feed_audio.proofs.Measuring.{packable, none_yet, first-sums, first-refused, first-measured}
 use Rattle.feed_audio.proofs.packets.measure_page.Goals as goal
 
 pub measure-requires : goal.measure-requires
@@ -35,12 +36,12 @@ slice_bounds-read_packet-end c =
     sym (length-take-le _ _ (rw q at c.requires.held))
 
 pub packed-requires : goal.packed-requires
-packed-requires c = packable _ _ _ (read_as c.read_packet.ensures c.in-Legal.is)
+packed-requires c = packable _ _ _ (sym c.in_ok-contents-in-Held.ensures)
 
-pub measure-requires-in-Legal : goal.measure-requires-in-Legal
-measure-requires-in-Legal c =
-    let m : Measure = c.in-Legal.contents.measure in
-    let fit : Packable m = packable _ _ _ (read_as c.read_packet.ensures c.in-Legal.is) in
+pub measure-requires-in-Held : goal.measure-requires-in-Held
+measure-requires-in-Held c =
+    let m : Measure = c.in_ok-contents-in-Held.contents.measure in
+    let fit : Packable m = packable _ _ _ (sym c.in_ok-contents-in-Held.ensures) in
     let size : 0 < length c.args.measures.now = omega arith in
     record {
       few = c.requires.few;
@@ -64,18 +65,16 @@ returns-in-Dropped c =
     let q : c.args.pending ≡ Dropped = c.in-Dropped.is in
     rw q (none_yet c.measure-in-Dropped.ensures)
 
-pub returns-in-Refused : goal.returns-in-Refused
-returns-in-Refused c =
+pub returns-in_err-contents-in-Held : goal.returns-in_err-contents-in-Held
+returns-in_err-contents-in-Held c =
     let q : c.args.pending ≡ Held c.in-Held.n = c.in-Held.is in
-    rw q (first-refused _ _ _ _ (read_as c.read_packet.ensures c.in-Refused.is))
+    let p = err_from_is_err_and c.from_residual.result c.from_residual.ensures.1 in
+    rw (p.1, p.2, q) (first-refused _ _ _ _ (sym c.in_err-contents-in-Held.ensures))
 
-pub shape_of-measures-in-Legal : goal.shape_of-measures-in-Legal
-shape_of-measures-in-Legal c = c.measures-in-Legal-1.given ∙ simp length-set
-
-pub returns-in-Legal : goal.returns-in-Legal
-returns-in-Legal c =
+pub returns-in_ok-contents-in-Held : goal.returns-in_ok-contents-in-Held
+returns-in_ok-contents-in-Held c =
     let q : c.args.pending ≡ Held c.in-Held.n = c.in-Held.is in
     let size : 0 < length c.args.measures.now = omega (arith, c.requires.room) in
     rw q
-    (first-measured _ _ _ c.args.measures.now (read_as c.read_packet.ensures c.in-Legal.is) size
-    (rw c.packed.ensures at c.measure-in-Legal.ensures))
+    (first-measured _ _ _ c.args.measures.now (sym c.in_ok-contents-in-Held.ensures) size
+    (rw c.packed.ensures at c.measure-in-Held.ensures))

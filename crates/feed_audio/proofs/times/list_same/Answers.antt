@@ -21,21 +21,9 @@ list_one-requires c =
     let room = c.requires in
     placeable c.loop-i.invariant c.loop-i-test.true (measure c.args.m c.loop-i-test.true) room.ends room.lengths room.kept room.frames
 
-pub wide-at-requires : goal.wide-at-requires
-wide-at-requires c = tt
-
 pub overflow_add-at : goal.overflow_add-at
 overflow_add-at c =
     omega (arith, fits_next c.loop-i.invariant c.loop-i-test.true (measure c.args.m c.loop-i-test.true), c.wide-at.ensures)
-
-pub skip_after-left-requires : goal.skip_after-left-requires
-skip_after-left-requires c = tt
-
-pub overflow_add-i : goal.overflow_add-i
-overflow_add-i c = omega arith
-
-pub loop-i-smaller : goal.loop-i-smaller
-loop-i-smaller c = omega arith
 
 pub loop-i-preserved : goal.loop-i-preserved
 loop-i-preserved c =

@@ -1,8 +1,0 @@
--- `check_stream::store_at` meets its contract: a number stored in a list, or nothing past its end. Assumes nothing.
-use mathlib.Core.Path.{sym}
-use borrow.Author.Rules.{rules}
-use lib.Seq.{set_out}
-use Rattle.check_stream.proofs.store_at.Goals as goal
-
-pub returns-else-i-list : goal.returns-else-i-list
-returns-else-i-list c = sym (set_out _ _ _ c.if-i-list.false)

@@ -1,7 +1,0 @@
--- A number of a list, or 0 past its end. Assumes nothing.
-use mathlib.Core.Path.{sym}
-use lib.ListN.{get_or-eq_default}
-use Rattle.index_columns.proofs.short_at.Goals as goal
-
-pub returns-else-i-list : goal.returns-else-i-list
-returns-else-i-list c = sym (get_or-eq_default c.args.list.now 0 c.if-i-list.false)
