@@ -59,5 +59,8 @@ pub fn copy_at(d: &mut [u8], at: usize, s: &[u8])
     if is_short(d.len(), at, s.len()) {
         return;
     }
-    d[at..at + s.len()].copy_from_slice(s);
+    // not `copy_from_slice`, which is compiled to a call of `memmove`: the static library would need that from its caller
+    for (j, b) in s.iter().enumerate() {
+        d[at + j] = *b;
+    }
 }

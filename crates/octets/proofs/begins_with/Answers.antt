@@ -2,6 +2,7 @@
 use mathlib.Core.Path.{◌≡◌, refl, ap, ◌∙◌}
 use mathlib.Core.Bool.{◌&&◌}
 use mathlib.Core.List.{[], ◌∷◌}
+use native.Mathlib.Omega.{arith}
 use lib.Dec.{eqb}
 use lib.ListN.{length, take}
 use lib.Pointwise.{pointwise}
@@ -15,4 +16,6 @@ paired (a ∷ p) [] = refl
 paired (a ∷ p) (b ∷ s) = ap (λ (t : _). eqb a b && t) (paired p s)
 
 pub returns : goal.returns
-returns c = c.starts_with.ensures.value ∙ paired c.args.p.now c.args.s.now
+returns c =
+    let same : c.starts_with.result ≡ begins c.args.p.now c.args.s.now = c.starts_with.ensures.value ∙ paired c.args.p.now c.args.s.now in
+    grind (arith, same)

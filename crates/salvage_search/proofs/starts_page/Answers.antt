@@ -4,7 +4,6 @@ use Prim.Native.Nat.{ℕ}
 use mathlib.Core.Path.{◌≡◌, sym, ap, ◌∙◌}
 use mathlib.Core.Option.{some}
 use native.Mathlib.Omega.{arith}
-use borrow.Author.Rules.{rules}
 use lib.ListN.{length-take}
 use Rattle.octets.specs.Octets.{Bytes}
 use Rattle.page_end.specs.End.{end_at}
@@ -28,7 +27,9 @@ returns-in-None c =
 
 pub returns-in-Some : goal.returns-in-Some
 returns-in-Some c =
+    let good : c.is_ok.result ≡ starts_page (page_sliced (entry_in c.args.tables.now)) c.args.s.now =
     c.is_ok.ensures.value
     ∙ good_told c.read_page_with.result
     ∙ sym (starts-whole _ c.args.s.now (sym c.end_at.ensures ∙ ap given c.in-Some.is)
-    ∙ ap is_good (sym c.read_page_with.ensures))
+    ∙ ap is_good (sym c.read_page_with.ensures)) in
+    grind (arith, good)
